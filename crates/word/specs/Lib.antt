@@ -1,0 +1,2 @@
+-- What the contracts of `word` cite: words modulo 2^w.
+pub mod Word
