@@ -23,7 +23,7 @@ one-more b odd (suc w) = next (one-more b odd w)
     next : (c : ℕ) × (b ^ (2 ^ w) ≡ 1 + c * (2 * 2 ^ w)) → (c : ℕ) × (b ^ (2 ^ suc w) ≡ 1 + c * (2 * 2 ^ suc w))
     next p = (p .0 + p .0 * p .0 * 2 ^ w, doubled ∙ rw (p .1, pow-suc 2 w) (squared (2 ^ w) (p .0)))
 
-one-pow : (n : ℕ) → 1 ^ n ≡ 1
+pub one-pow : (n : ℕ) → 1 ^ n ≡ 1
 one-pow zero = pow-zero 1
 one-pow (suc n) = rw (pow-suc 1 n, one-pow n)
 

@@ -37,6 +37,10 @@ difference-unique w a b r h e =
     ∙ sum-cancel w r (difference w a b) b (e ∙ sym (difference-sum w a b))
     ∙ mod-mod (a + (2 ^ w - b % 2 ^ w)) (2 ^ w)
 
+-- What the supplied wrapping difference promises of its result makes it this one.
+pub difference-found : (w a b r : ℕ) → r < 2 ^ w → a < 2 ^ w → sum w r b ≡ a → r ≡ difference w a b
+difference-found w a b r h fits e = difference-unique w a b r h (e ∙ sym (word-of-word w a fits))
+
 pub difference-negation : (w a b : ℕ) → difference w a b ≡ sum w a (negation w b)
 difference-negation w a b = sym (add-mod-mod a (0 + (2 ^ w - b % 2 ^ w)) (2 ^ w) ∙ ap (λ z. (a + z) % 2 ^ w) (omega arith))
 

@@ -1,0 +1,133 @@
+-- What the public calls compute on rows of 17 words is what their outcomes say on trimmed chains.
+use mathlib.Core.Path.{_≡_, refl, sym, ap, ap₂, _∙_}
+use mathlib.Core.List.{List, [], _∷_, map}
+use Prim.Native.Nat.{ℕ, zero, suc, _+_, _-_, _*_, _%_, _^_, _<_, _≤_, suc-le-suc}
+use native.Mathlib.Nat.{mul-zero, not-suc-le-zero, le-of-suc-le-suc}
+use native.Mathlib.Numerals.{add-one}
+use native.Mathlib.Omega.{arith}
+use lib.ListN.{length, getD, take, length-take, length-map}
+use Rattle.word.proofs.Modulo.{add-same, mul-same}
+use Rattle.chain.specs.Chain.{value, rest, shift, joined, words, trimmed, row}
+use Rattle.chain.specs.SumChain.{sumAt, sumShift, sum, difference, scaled, times, product}
+use Rattle.chain.specs.Answer.{given}
+use Rattle.chain.proofs.Values as Values
+use Rattle.chain.proofs.SumLaws.{value-sum, value-scaled, value-words, value-product, sum-shift, difference-as-sum}
+use Rattle.chain.proofs.Trimming.{value-trimmed-sum, trimmed-row, length-row, zero-past, length-trimmed, length-trimmed-none}
+use Rattle.chain.proofs.Canonical.{value-row, same-row}
+use Rattle.chain.proofs.Rows.{row-whole}
+use Rattle.chain.proofs.Shifting.{length-shift}
+
+-- ---- lengths
+length-joined : (_⊙_ : ℕ → ℕ → ℕ) (unit n : ℕ) (f g : List ℕ) → length f ≤ n → length g ≤ n → length (joined _⊙_ unit f g) ≤ n
+unfolding joined
+length-joined _⊙_ unit n [] g p q = rw (length-map g (λ b. _⊙_ unit b)) q
+length-joined _⊙_ unit zero (a ∷ f) g p q = absurd (not-suc-le-zero p)
+length-joined _⊙_ unit (suc n) (a ∷ f) g p q =
+    suc-le-suc (length-joined _⊙_ unit n f (rest g) (omega arith) (shorter g q))
+  where
+    shorter : (g : List ℕ) → length g ≤ suc n → length (rest g) ≤ n
+    shorter [] h = omega arith
+    shorter (b ∷ g) h = omega arith
+
+length-times : (a : ℕ) (below : List ℕ → List ℕ) (k : ℕ) → ((l : ℕ) (g : List ℕ) → length g ≤ suc l → length (below g) ≤ k + l)
+    → (g : List ℕ) (l : ℕ) → length g ≤ suc l → length (times a below g) ≤ suc k + l
+unfolding times
+length-times a below k short [] l h = omega arith
+length-times a below k short (b ∷ g) l h =
+    next (length-joined _+_ 0 (k + l) (times a below g) (below (sumShift (b ∷ g))) (earlier g (length-times a below k short g) l h) (short l (sumShift (b ∷ g)) (rw (length-shift _+_ (b ∷ g)) h)))
+  where
+    next : {n : ℕ} → n ≤ k + l → suc n ≤ suc k + l
+    next p = omega arith
+    earlier : (g : List ℕ) → ((l : ℕ) → length g ≤ suc l → length (times a below g) ≤ suc k + l)
+        → (l : ℕ) → length (b ∷ g) ≤ suc l → length (times a below g) ≤ k + l
+    earlier [] again l h = omega arith
+    earlier (c ∷ g) again zero h = absurd (not-suc-le-zero (le-of-suc-le-suc h))
+    earlier (c ∷ g) again (suc l) h = omega (arith, again l (le-of-suc-le-suc h))
+
+pub length-product : (f g : List ℕ) (k l : ℕ) → length f ≤ k → length g ≤ suc l → length (product f g) ≤ k + l
+unfolding product
+length-product [] g k l p q = omega arith
+length-product (a ∷ f) g zero l p q = absurd (not-suc-le-zero p)
+length-product (a ∷ f) g (suc k) l p q =
+    length-times a (product f) k (λ n h. length-product f h k n (le-of-suc-le-suc p)) g l q
+
+-- ---- the arguments: an array's first k + 1 words, with zeros past them
+module _ (f : List ℕ) (k : ℕ) (long : length f ≡ 17) where
+  pub length-kept : length (take (k + 1) f) ≤ 17
+  length-kept = rw (length-take (k + 1) f) (omega arith)
+
+  pub kept-trimmed : trimmed 0 (row 17 (take (k + 1) f)) ≡ given f k
+  kept-trimmed = trimmed-row 16 (take (k + 1) f) length-kept
+
+  pub kept-length : {e : List ℕ} {n : ℕ} → n ≡ length (trimmed 0 e) - 1 → e ≡ row 17 (take (k + 1) f) → n ≡ length (given f k) - 1
+  kept-length p q = p ∙ ap (λ c. length (trimmed 0 c) - 1) q ∙ ap (λ c. length c - 1) kept-trimmed
+
+  pub length-given : length (given f k) ≤ 17
+  length-given = go (take (k + 1) f) length-kept
+    where
+      go : (g : List ℕ) → length g ≤ 17 → length (trimmed 0 g) ≤ 17
+      go [] h = omega (arith, length-trimmed-none)
+      go (a ∷ g) h = omega (arith, length-trimmed a g)
+
+  pub kept-value : (i : ℕ) → sumAt (row 17 (take (k + 1) f)) i ≡ sumAt (given f k) i
+  kept-value i = sym (value-trimmed-sum (row 17 (take (k + 1) f)) i) ∙ ap (λ g. sumAt g i) kept-trimmed
+
+pub past-trimmed : (f : List ℕ) {n : ℕ} → n ≡ length (trimmed 0 f) - 1 → (j : ℕ) → n < j → getD f j 0 ≡ 0
+past-trimmed f e j h = zero-past f j (omega arith)
+
+pub kept-first : (f : List ℕ) (k : ℕ) → getD f 0 0 ≡ value 0 (given f k)
+unfolding trimmed
+kept-first [] k = ap (λ n. value 0 (take n [])) (sym (add-one k))
+kept-first (a ∷ f) k = ap (λ n. value 0 (take n (a ∷ f))) (sym (add-one k))
+
+-- ---- the results: 17 words with the right values trim to the outcome
+pub trimmed-as : (w : ℕ) (h there : List ℕ) → length there ≤ 17 → ((i : ℕ) → i < 17 → sumAt h i % 2 ^ w ≡ sumAt there i % 2 ^ w)
+    → trimmed 0 (row 17 (words w h)) ≡ trimmed 0 (words w there)
+trimmed-as w h there short same =
+    ap (λ g. trimmed 0 g) (same-row w 17 h there same) ∙ trimmed-row 16 (words w there) (rw (length-map there (λ a. a % 2 ^ w)) short)
+
+module _ (w : ℕ) (f : List ℕ) (k : ℕ) (f-long : length f ≡ 17) (g : List ℕ) (l : ℕ) (g-long : length g ≡ 17) where
+  pub sum-trims : trimmed 0 (row 17 (words w (sum (row 17 (take (k + 1) f)) (row 17 (take (l + 1) g))))) ≡ trimmed 0 (words w (sum (given f k) (given g l)))
+  sum-trims =
+      trimmed-as w (sum (row 17 (take (k + 1) f)) (row 17 (take (l + 1) g))) (sum (given f k) (given g l))
+      (length-joined _+_ 0 17 (given f k) (given g l) (length-given f k f-long) (length-given g l g-long))
+      (λ i h. ap (λ z. z % 2 ^ w)
+        (value-sum (row 17 (take (k + 1) f)) (row 17 (take (l + 1) g)) i
+        ∙ ap₂ _+_ (kept-value f k f-long i) (kept-value g l g-long i)
+        ∙ sym (value-sum (given f k) (given g l) i)))
+
+  pub difference-trims : trimmed 0 (row 17 (difference w (row 17 (take (k + 1) f)) (row 17 (take (l + 1) g)))) ≡ trimmed 0 (difference w (given f k) (given g l))
+  difference-trims =
+      ap (λ h. trimmed 0 (row 17 h)) (difference-as-sum w (row 17 (take (k + 1) f)) (row 17 (take (l + 1) g)))
+      ∙ trimmed-as w (sum (row 17 (take (k + 1) f)) (scaled (2 ^ w - 1) (row 17 (take (l + 1) g)))) (sum (given f k) (scaled (2 ^ w - 1) (given g l)))
+        (length-joined _+_ 0 17 (given f k) (scaled (2 ^ w - 1) (given g l)) (length-given f k f-long)
+        (rw (length-map (given g l) (λ a. (2 ^ w - 1) * a)) (length-given g l g-long)))
+        (λ i h. ap (λ z. z % 2 ^ w)
+          (value-sum (row 17 (take (k + 1) f)) (scaled (2 ^ w - 1) (row 17 (take (l + 1) g))) i
+          ∙ ap₂ _+_ (kept-value f k f-long i)
+            (value-scaled (2 ^ w - 1) (row 17 (take (l + 1) g)) i
+            ∙ ap (λ z. (2 ^ w - 1) * z) (kept-value g l g-long i)
+            ∙ sym (value-scaled (2 ^ w - 1) (given g l) i))
+          ∙ sym (value-sum (given f k) (scaled (2 ^ w - 1) (given g l)) i)))
+      ∙ ap (λ h. trimmed 0 h) (sym (difference-as-sum w (given f k) (given g l)))
+
+  pub product-trims : (length (given f k) - 1) + (length (given g l) - 1) ≤ 16
+      → trimmed 0 (row 17 (words w (product (row 17 (take (k + 1) f)) (row 17 (take (l + 1) g))))) ≡ trimmed 0 (words w (product (given f k) (given g l)))
+  product-trims short =
+      trimmed-as w (product (row 17 (take (k + 1) f)) (row 17 (take (l + 1) g))) (product (given f k) (given g l))
+      (omega (arith, length-product (given f k) (given g l) (length (given f k)) (length (given g l) - 1) (omega arith) (omega arith)))
+      (λ i h. ap (λ z. z % 2 ^ w)
+        (value-product (row 17 (take (k + 1) f)) (row 17 (take (l + 1) g)) i
+        ∙ ap₂ _*_ (kept-value f k f-long i) (kept-value g l g-long i)
+        ∙ sym (value-product (given f k) (given g l) i)))
+
+pub shift-trims : (w : ℕ) (f : List ℕ) (k : ℕ) → length f ≡ 17
+    → trimmed 0 (words w (sumShift (row 17 (take (k + 1) f)))) ≡ trimmed 0 (words w (sumShift (given f k)))
+shift-trims w f k long =
+    ap (λ g. trimmed 0 g) (sym (row-whole 17 (words w (sumShift (row 17 (take (k + 1) f)))) whole))
+    ∙ trimmed-as w (sumShift (row 17 (take (k + 1) f))) (sumShift (given f k)) (rw (length-shift _+_ (given f k)) (length-given f k long))
+      (λ i h. ap (λ z. z % 2 ^ w)
+        (sum-shift (row 17 (take (k + 1) f)) i ∙ kept-value f k long (suc i) ∙ sym (sum-shift (given f k) i)))
+  where
+    whole : length (words w (sumShift (row 17 (take (k + 1) f)))) ≡ 17
+    whole = length-map (sumShift (row 17 (take (k + 1) f))) (λ a. a % 2 ^ w) ∙ length-shift _+_ (row 17 (take (k + 1) f)) ∙ length-row 17 (take (k + 1) f)

@@ -1,0 +1,10 @@
+-- Laws of chains, for this crate's proofs and for the crates above.
+pub mod Values
+pub mod Trimming
+pub mod SumLaws
+pub mod ProductLaws
+pub mod Canonical
+pub mod Rows
+pub mod Shifting
+pub mod ProductRule
+pub mod Calls

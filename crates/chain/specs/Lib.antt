@@ -1,0 +1,6 @@
+-- What the contracts of `chain` cite: chains of recurrences, coefficient lists, and the answers of the public calls.
+pub mod Chain
+pub mod SumChain
+pub mod ProductChain
+pub mod Coefficients
+pub mod Answer

@@ -1,0 +1,40 @@
+-- Sum chains: value, shift, sum, difference, scaling, product and power, by document 000's rules.
+-- Product chains are in ProductChain.antt; the answers of the public calls in Answer.antt.
+use mathlib.Core.List.{List, [], _∷_, map}
+use Prim.Native.Nat.{ℕ, zero, suc, _+_, _*_}
+use Rattle.word.specs.Word as Word
+use Rattle.chain.specs.Chain as Chain
+
+-- The value of a sum chain after i shifts.
+abbrev pub sumAt : List ℕ → ℕ → ℕ
+sumAt f i = Chain.valueAt _+_ 0 f i
+
+abbrev pub sumShift : List ℕ → List ℕ
+sumShift f = Chain.shift _+_ f
+
+-- "C+S, S+C, S+S, and the same under -: element by element, the shorter one filled with zeros, C standing as f0."
+abbrev pub sum : List ℕ → List ℕ → List ℕ
+sum f g = Chain.joined _+_ 0 f g
+
+-- A difference of words is a word, so the width enters here.
+abbrev pub difference : ℕ → List ℕ → List ℕ → List ℕ
+difference w f g = Chain.joined (Word.difference w) 0 f g
+
+-- "C*S and S*C: every element."
+abbrev pub scaled : ℕ → List ℕ → List ℕ
+scaled c f = map (λ a. c * a) f
+
+-- "document 000's rule, f*g = (f0*g0, then the chain of f*g1 + f1*(shifted g)), where f1 and g1 are the chains without their
+-- first element." For f = (a, f1), `times a below g` is f*g, and `below` multiplies by f1.
+unfoldable pub times : ℕ → (List ℕ → List ℕ) → List ℕ → List ℕ
+times a below [] = []
+times a below (b ∷ g) = (a * b) ∷ sum (times a below g) (below (sumShift (b ∷ g)))
+
+unfoldable pub product : List ℕ → List ℕ → List ℕ
+product [] g = []
+product (a ∷ f) g = times a (product f) g
+
+-- "S^n": the n-fold product; n = 0 gives 1.
+unfoldable pub power : List ℕ → ℕ → List ℕ
+power f zero = 1 ∷ []
+power f (suc n) = product (power f n) f

@@ -1,0 +1,117 @@
+-- Laws of the probe, over the width w wherever words are computed: uniqueness, the offset's range and meaning, the verdicts.
+-- `_<ℤ_` and `_≤ℤ_` are the library's orders on signed numbers.
+use mathlib.Core.Path.{_≡_, refl}
+use mathlib.Core.Bool.{Bool, true, false, cond}
+use Prim.Native.Nat.{ℕ, zero, suc, _+_, _-_, _%_, _^_, _≤_, _<_}
+use native.Mathlib.Nat.{not-suc-le-zero}
+use native.Mathlib.Omega.{arith}
+use borrow.Author.Tests.{lt-ltb}
+use lib.Dec.{T, ltb, le→leb, ltb→lt}
+use lib.IntN.{ℤ, pos, negsuc, negℤ}
+use lib.Pow.{pow-pos}
+use lib.Signed.{ltZ, leZ, _<ℤ_, _≤ℤ_, clashℤ, ltZ-yes}
+use Rattle.word.specs.Word.{word, sum, difference}
+use Rattle.word.proofs.Ring.{word-fits, difference-sum}
+use Rattle.word.proofs.Unique.{both-are}
+use Rattle.probe.specs.declared.Verdict.the-variants.{NoVerdict, Within, Ahead, Behind}
+use Rattle.probe.specs.declared.ProbeAnswer.{ProbeAnswer}
+use Rattle.probe.specs.Probe.{half, signed, offset, verdict, accepted, refused, probeAnswer, ahead, behind, within, verdictWord, judgement}
+use Rattle.probe.proofs.Signs.{two-halves, by-halves}
+
+-- Any two answers that meet the contract are equal.
+pub probe-unique : (reading expected tolerance : ℕ) (r s : ProbeAnswer)
+    → r ≡ probeAnswer reading expected tolerance → s ≡ probeAnswer reading expected tolerance → r ≡ s
+probe-unique reading expected tolerance r s = both-are
+
+-- ---- the offset
+difference-fits : (w reading expected : ℕ) → difference w reading expected < 2 ^ w
+difference-fits w reading expected = word-fits w (reading + (2 ^ w - expected % 2 ^ w))
+
+pub signed-range : (w d : ℕ) → 0 < w → d < 2 ^ w → (negℤ (pos (half w)) ≤ℤ signed w d) × (signed w d ≤ℤ pos (half w - 1))
+signed-range w d some fits = by-halves w d (λ z. (negℤ (pos (half w)) ≤ℤ z) × (z ≤ℤ pos (half w - 1))) fits
+    (λ low. (record { le = under (half w) }, record { le = le→leb d (half w - 1) (omega arith) }))
+    (λ high. (record { le = over (half w) (pow-pos (w - 1)) (two-halves w some) high }, record { le = tt }))
+  where
+    under : (n : ℕ) → T (leZ (negℤ (pos n)) (pos d))
+    under zero = le→leb 0 d (omega arith)
+    under (suc n) = tt
+
+    over : (n : ℕ) → 0 < n → 2 ^ w ≡ n + n → n ≤ d → T (leZ (negℤ (pos n)) (negsuc (2 ^ w - suc d)))
+    over zero positive twice high = absurd (not-suc-le-zero positive)
+    over (suc n) positive twice high = le→leb (2 ^ w - suc d) n (omega arith)
+
+-- "a signed number from -2^63 to 2^63 - 1".
+pub offset-range : (w reading expected : ℕ) → 0 < w
+    → (negℤ (pos (half w)) ≤ℤ offset w reading expected) × (offset w reading expected ≤ℤ pos (half w - 1))
+offset-range w reading expected some =
+    signed-range w (difference w reading expected) some (difference-fits w reading expected)
+
+-- The word that a signed number reads: n, and 2^w - (n + 1) for -(n + 1).
+abbrev pub wordOf : ℕ → ℤ → ℕ
+wordOf w (pos n) = n
+wordOf w (negsuc n) = 2 ^ w - suc n
+
+pub signed-word : (w d : ℕ) → d < 2 ^ w → wordOf w (signed w d) ≡ d
+signed-word w d fits = by-halves w d (λ z. wordOf w z ≡ d) fits (λ low. refl) (λ high. omega arith)
+
+-- "offset = reading - expected modulo 2^64": the offset's word added to what was expected is the reading.
+pub offset-word : (w reading expected : ℕ) → sum w (wordOf w (offset w reading expected)) expected ≡ word w reading
+offset-word w reading expected =
+    rw (signed-word w (difference w reading expected) (difference-fits w reading expected))
+    (difference-sum w reading expected)
+
+-- ---- the verdict
+passed : (b : Bool) → T b → b ≡ true
+passed true t = refl
+passed false t = absurd t
+
+failed : (b : Bool) → (T b → ⊥) → b ≡ false
+failed true f = absurd (f tt)
+failed false f = refl
+
+-- The enum's case and the word of 01 agree.
+pub verdict-word : (z : ℤ) (t : ℕ) → verdictWord (verdict z t) ≡ judgement z t
+verdict-word z t = called (ltZ (pos t) z) (ltZ z (negℤ (pos t)))
+  where
+    called : (b c : Bool) → verdictWord (cond b Ahead (cond c Behind Within)) ≡ cond b ahead (cond c behind within)
+    called true c = refl
+    called false true = refl
+    called false false = refl
+
+-- "Offset above T is *ahead*".
+pub above-is-ahead : (z : ℤ) (t : ℕ) → pos t <ℤ z → verdictWord (verdict z t) ≡ ahead
+above-is-ahead z t above = rw (passed (ltZ (pos t) z) (above .lt))
+
+-- "below -T is *behind*".
+pub below-is-behind : (z : ℤ) (t : ℕ) → z <ℤ negℤ (pos t) → verdictWord (verdict z t) ≡ behind
+below-is-behind (pos n) zero below = absurd (not-suc-le-zero (ltb→lt n 0 (below .lt)))
+below-is-behind (pos n) (suc t) below = absurd (below .lt)
+below-is-behind (negsuc n) t below = rw (passed (ltZ (negsuc n) (negℤ (pos t))) (below .lt))
+
+-- "else *within*".
+pub else-is-within : (z : ℤ) (t : ℕ) → negℤ (pos t) ≤ℤ z → z ≤ℤ pos t → verdictWord (verdict z t) ≡ within
+else-is-within z t low high =
+    rw (failed (ltZ (pos t) z) (λ above. clashℤ (ltZ-yes above) high), failed (ltZ z (negℤ (pos t))) (λ below. clashℤ (ltZ-yes below) low))
+
+-- "Offset -2^63 is always behind": at every tolerance that is accepted.
+pub lowest-is-behind : (w t : ℕ) → t < half w → verdict (negℤ (pos (half w))) t ≡ Behind
+lowest-is-behind w t small = at (half w) t small
+  where
+    at : (n t : ℕ) → t < n → verdict (negℤ (pos n)) t ≡ Behind
+    at zero t h = absurd (not-suc-le-zero h)
+    at (suc n) zero h = refl
+    at (suc n) (suc t) h = rw (lt-ltb t n (omega arith))
+
+-- "Every reading is judged this way": an accepted answer has one of the three verdicts.
+pub judged : (reading expected tolerance : ℕ)
+    → probeAnswer reading expected tolerance .number ≡ 0 → probeAnswer reading expected tolerance .verdict ≡ NoVerdict → ⊥
+judged reading expected tolerance = by (ltb tolerance (half 64)) (offset 64 reading expected)
+  where
+    three : (b c : Bool) → cond b Ahead (cond c Behind Within) ≡ NoVerdict → ⊥
+    three true c e = let clash : _≡_ {A = ℕ} 0 1 = cc in omega arith
+    three false true e = let clash : _≡_ {A = ℕ} 0 1 = cc in omega arith
+    three false false e = let clash : _≡_ {A = ℕ} 0 1 = cc in omega arith
+
+    by : (b : Bool) (z : ℤ) → cond b (accepted z tolerance) refused .number ≡ 0 → cond b (accepted z tolerance) refused .verdict ≡ NoVerdict → ⊥
+    by true z zero-number none = three (ltZ (pos tolerance) z) (ltZ z (negℤ (pos tolerance))) none
+    by false z zero-number none = omega arith

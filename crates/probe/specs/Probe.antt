@@ -1,0 +1,65 @@
+-- The probe of a reading against what was expected, with a tolerance. The width w of words is a parameter; the box has w = 64.
+-- Signed numbers are the library's ℤ, and `ltZ a b` is its test of a < b. Laws about these definitions are in proofs/Laws.antt.
+use mathlib.Core.Bool.{cond}
+use mathlib.Core.List.{List, [], _∷_}
+use Prim.Native.Nat.{ℕ, _-_, _^_}
+use lib.Dec.{ltb}
+use lib.IntN.{ℤ, pos, negℤ, _-ℤ_}
+use lib.Signed.{ltZ}
+use Rattle.word.specs.Word.{difference}
+use Rattle.probe.specs.declared.Verdict.{Verdict}
+use Rattle.probe.specs.declared.Verdict.the-variants.{NoVerdict, Within, Ahead, Behind}
+use Rattle.probe.specs.declared.ProbeAnswer.{ProbeAnswer}
+
+-- Half the number of words: 2^63 of 2^64.
+abbrev pub half : ℕ → ℕ
+half w = 2 ^ (w - 1)
+
+-- "read as a signed number from -2^63 to 2^63 - 1": a word d below 2^63 is d, and any other is d - 2^64.
+abbrev pub signed : ℕ → ℕ → ℤ
+signed w d = cond (ltb d (half w)) (pos d) (pos d -ℤ pos (2 ^ w))
+
+-- "offset = reading - expected modulo 2^64, read as a signed number".
+abbrev pub offset : ℕ → ℕ → ℕ → ℤ
+offset w reading expected = signed w (difference w reading expected)
+
+-- "Offset above T is *ahead*, below -T is *behind*, else *within*."
+abbrev pub verdict : ℤ → ℕ → Verdict
+verdict z t = cond (ltZ (pos t) z) Ahead (cond (ltZ z (negℤ (pos t))) Behind Within)
+
+-- "An accepted call answers number 0, place 0"; "Every reading is judged this way."
+abbrev pub accepted : ℤ → ℕ → ProbeAnswer
+accepted z t = record { number = 0; place = 0; offset = z; verdict = verdict z t }
+
+-- Refusal 10 has place 0; "a refused probe returns offset 0 and no verdict".
+abbrev pub refused : ProbeAnswer
+refused = record { number = 10; place = 0; offset = pos 0; verdict = NoVerdict }
+
+-- Refusal 10: "T is 2^63 or more".
+abbrev pub probeAnswer : ℕ → ℕ → ℕ → ProbeAnswer
+probeAnswer reading expected tolerance = cond (ltb tolerance (half 64)) (accepted (offset 64 reading expected) tolerance) refused
+
+-- "*ahead*", "*behind*", "*within*": each word as its bytes.
+abbrev pub ahead : List ℕ
+ahead = 97 ∷ 104 ∷ 101 ∷ 97 ∷ 100 ∷ []
+
+abbrev pub behind : List ℕ
+behind = 98 ∷ 101 ∷ 104 ∷ 105 ∷ 110 ∷ 100 ∷ []
+
+abbrev pub within : List ℕ
+within = 119 ∷ 105 ∷ 116 ∷ 104 ∷ 105 ∷ 110 ∷ []
+
+-- The word that each verdict stands for; "no verdict" has no byte.
+abbrev pub verdictWord : Verdict → List ℕ
+verdictWord NoVerdict = []
+verdictWord Within = within
+verdictWord Ahead = ahead
+verdictWord Behind = behind
+
+-- "Offset above T is *ahead*, below -T is *behind*, else *within*.", in these words.
+abbrev pub judgement : ℤ → ℕ → List ℕ
+judgement z t = cond (ltZ (pos t) z) ahead (cond (ltZ z (negℤ (pos t))) behind within)
+
+-- The word that the whole answer's verdict stands for.
+abbrev pub probeWord : ℕ → ℕ → ℕ → List ℕ
+probeWord reading expected tolerance = cond (ltb tolerance (half 64)) (judgement (offset 64 reading expected) tolerance) []
