@@ -8,3 +8,6 @@ pub mod Rows
 pub mod Shifting
 pub mod ProductRule
 pub mod Calls
+pub mod Tables
+pub mod CoefficientLaws
+pub mod OntoTable

@@ -13,6 +13,10 @@ unfoldable pub factorial : ℕ → ℕ
 factorial zero = 1
 factorial (suc m) = suc m * factorial m
 
+-- "It stands on a table of 289 numbers", m! * S(j,m): in how many ways j things map onto m.
+unfoldable pub onto : ℕ → ℕ → ℕ
+onto j m = factorial m * stirling j m
+
 -- The polynomial a0 + a1 * i + .. + ad * i^d: with the power that the first coefficient stands at.
 unfoldable pub polynomialFrom : ℕ → List ℕ → ℕ → ℕ
 polynomialFrom j [] i = 0
@@ -24,7 +28,7 @@ polynomial a i = polynomialFrom 0 a i
 -- "element m is the sum over j of aj * m! * S(j,m)": with the j that the first coefficient stands at.
 unfoldable pub elementFrom : ℕ → List ℕ → ℕ → ℕ
 elementFrom j [] m = 0
-elementFrom j (a ∷ later) m = a * (factorial m * stirling j m) + elementFrom (suc j) later m
+elementFrom j (a ∷ later) m = a * onto j m + elementFrom (suc j) later m
 
 -- F m, F (m + 1), ..: n numbers.
 unfoldable pub tabulated : (ℕ → ℕ) → ℕ → ℕ → List ℕ
