@@ -1,19 +1,17 @@
 -- What the public calls compute on rows of 17 words is what their outcomes say on trimmed chains.
-use mathlib.Core.Path.{_≡_, refl, sym, ap, ap₂, _∙_}
-use mathlib.Core.List.{List, [], _∷_, map}
+use mathlib.Core.Path.{_≡_, sym, ap, ap₂, _∙_}
+use mathlib.Core.List.{List, [], _∷_}
 use Prim.Native.Nat.{ℕ, zero, suc, _+_, _-_, _*_, _%_, _^_, _<_, _≤_, suc-le-suc}
-use native.Mathlib.Nat.{mul-zero, not-suc-le-zero, le-of-suc-le-suc}
+use native.Mathlib.Nat.{not-suc-le-zero, le-of-suc-le-suc}
 use native.Mathlib.Numerals.{add-one}
 use native.Mathlib.Omega.{arith}
 use lib.ListN.{length, getD, take, length-take, length-map}
-use Rattle.word.proofs.Modulo.{add-same, mul-same}
-use Rattle.chain.specs.Chain.{value, rest, shift, joined, words, trimmed, row}
+use Rattle.chain.specs.Chain.{value, rest, joined, words, trimmed, row}
 use Rattle.chain.specs.SumChain.{sumAt, sumShift, sum, difference, scaled, times, product}
 use Rattle.chain.specs.Answer.{given}
-use Rattle.chain.proofs.Values as Values
-use Rattle.chain.proofs.SumLaws.{value-sum, value-scaled, value-words, value-product, sum-shift, difference-as-sum}
+use Rattle.chain.proofs.SumLaws.{value-sum, value-scaled, value-product, sum-shift, difference-as-sum}
 use Rattle.chain.proofs.Trimming.{value-trimmed-sum, trimmed-row, length-row, zero-past, length-trimmed, length-trimmed-none}
-use Rattle.chain.proofs.Canonical.{value-row, same-row}
+use Rattle.chain.proofs.Canonical.{same-row}
 use Rattle.chain.proofs.Rows.{row-whole}
 use Rattle.chain.proofs.Shifting.{length-shift}
 
@@ -38,6 +36,7 @@ length-times a below k short (b ∷ g) l h =
   where
     next : {n : ℕ} → n ≤ k + l → suc n ≤ suc k + l
     next p = omega arith
+
     earlier : (g : List ℕ) → ((l : ℕ) → length g ≤ suc l → length (times a below g) ≤ suc k + l)
         → (l : ℕ) → length (b ∷ g) ≤ suc l → length (times a below g) ≤ k + l
     earlier [] again l h = omega arith
@@ -92,23 +91,23 @@ module _ (w : ℕ) (f : List ℕ) (k : ℕ) (f-long : length f ≡ 17) (g : List
       trimmed-as w (sum (row 17 (take (k + 1) f)) (row 17 (take (l + 1) g))) (sum (given f k) (given g l))
       (length-joined _+_ 0 17 (given f k) (given g l) (length-given f k f-long) (length-given g l g-long))
       (λ i h. ap (λ z. z % 2 ^ w)
-        (value-sum (row 17 (take (k + 1) f)) (row 17 (take (l + 1) g)) i
-        ∙ ap₂ _+_ (kept-value f k f-long i) (kept-value g l g-long i)
-        ∙ sym (value-sum (given f k) (given g l) i)))
+      (value-sum (row 17 (take (k + 1) f)) (row 17 (take (l + 1) g)) i
+      ∙ ap₂ _+_ (kept-value f k f-long i) (kept-value g l g-long i)
+      ∙ sym (value-sum (given f k) (given g l) i)))
 
   pub difference-trims : trimmed 0 (row 17 (difference w (row 17 (take (k + 1) f)) (row 17 (take (l + 1) g)))) ≡ trimmed 0 (difference w (given f k) (given g l))
   difference-trims =
       ap (λ h. trimmed 0 (row 17 h)) (difference-as-sum w (row 17 (take (k + 1) f)) (row 17 (take (l + 1) g)))
       ∙ trimmed-as w (sum (row 17 (take (k + 1) f)) (scaled (2 ^ w - 1) (row 17 (take (l + 1) g)))) (sum (given f k) (scaled (2 ^ w - 1) (given g l)))
-        (length-joined _+_ 0 17 (given f k) (scaled (2 ^ w - 1) (given g l)) (length-given f k f-long)
-        (rw (length-map (given g l) (λ a. (2 ^ w - 1) * a)) (length-given g l g-long)))
-        (λ i h. ap (λ z. z % 2 ^ w)
-          (value-sum (row 17 (take (k + 1) f)) (scaled (2 ^ w - 1) (row 17 (take (l + 1) g))) i
-          ∙ ap₂ _+_ (kept-value f k f-long i)
-            (value-scaled (2 ^ w - 1) (row 17 (take (l + 1) g)) i
-            ∙ ap (λ z. (2 ^ w - 1) * z) (kept-value g l g-long i)
-            ∙ sym (value-scaled (2 ^ w - 1) (given g l) i))
-          ∙ sym (value-sum (given f k) (scaled (2 ^ w - 1) (given g l)) i)))
+      (length-joined _+_ 0 17 (given f k) (scaled (2 ^ w - 1) (given g l)) (length-given f k f-long)
+      (rw (length-map (given g l) (λ a. (2 ^ w - 1) * a)) (length-given g l g-long)))
+      (λ i h. ap (λ z. z % 2 ^ w)
+      (value-sum (row 17 (take (k + 1) f)) (scaled (2 ^ w - 1) (row 17 (take (l + 1) g))) i
+      ∙ ap₂ _+_ (kept-value f k f-long i)
+      (value-scaled (2 ^ w - 1) (row 17 (take (l + 1) g)) i
+      ∙ ap (λ z. (2 ^ w - 1) * z) (kept-value g l g-long i)
+      ∙ sym (value-scaled (2 ^ w - 1) (given g l) i))
+      ∙ sym (value-sum (given f k) (scaled (2 ^ w - 1) (given g l)) i)))
       ∙ ap (λ h. trimmed 0 h) (sym (difference-as-sum w (given f k) (given g l)))
 
   pub product-trims : (length (given f k) - 1) + (length (given g l) - 1) ≤ 16
@@ -117,17 +116,17 @@ module _ (w : ℕ) (f : List ℕ) (k : ℕ) (f-long : length f ≡ 17) (g : List
       trimmed-as w (product (row 17 (take (k + 1) f)) (row 17 (take (l + 1) g))) (product (given f k) (given g l))
       (omega (arith, length-product (given f k) (given g l) (length (given f k)) (length (given g l) - 1) (omega arith) (omega arith)))
       (λ i h. ap (λ z. z % 2 ^ w)
-        (value-product (row 17 (take (k + 1) f)) (row 17 (take (l + 1) g)) i
-        ∙ ap₂ _*_ (kept-value f k f-long i) (kept-value g l g-long i)
-        ∙ sym (value-product (given f k) (given g l) i)))
+      (value-product (row 17 (take (k + 1) f)) (row 17 (take (l + 1) g)) i
+      ∙ ap₂ _*_ (kept-value f k f-long i) (kept-value g l g-long i)
+      ∙ sym (value-product (given f k) (given g l) i)))
 
 pub shift-trims : (w : ℕ) (f : List ℕ) (k : ℕ) → length f ≡ 17
     → trimmed 0 (words w (sumShift (row 17 (take (k + 1) f)))) ≡ trimmed 0 (words w (sumShift (given f k)))
 shift-trims w f k long =
     ap (λ g. trimmed 0 g) (sym (row-whole 17 (words w (sumShift (row 17 (take (k + 1) f)))) whole))
     ∙ trimmed-as w (sumShift (row 17 (take (k + 1) f))) (sumShift (given f k)) (rw (length-shift _+_ (given f k)) (length-given f k long))
-      (λ i h. ap (λ z. z % 2 ^ w)
-        (sum-shift (row 17 (take (k + 1) f)) i ∙ kept-value f k long (suc i) ∙ sym (sum-shift (given f k) i)))
+    (λ i h. ap (λ z. z % 2 ^ w)
+    (sum-shift (row 17 (take (k + 1) f)) i ∙ kept-value f k long (suc i) ∙ sym (sum-shift (given f k) i)))
   where
     whole : length (words w (sumShift (row 17 (take (k + 1) f)))) ≡ 17
     whole = length-map (sumShift (row 17 (take (k + 1) f))) (λ a. a % 2 ^ w) ∙ length-shift _+_ (row 17 (take (k + 1) f)) ∙ length-row 17 (take (k + 1) f)

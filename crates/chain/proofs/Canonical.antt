@@ -2,8 +2,8 @@
 -- equal exactly when their values agree at indices 0 to 16.
 use mathlib.Core.Path.{_≡_, refl, sym, ap, ap₂, _∙_}
 use mathlib.Core.Logic.{_↔_}
-use mathlib.Core.List.{List, [], _∷_, map}
-use Prim.Native.Nat.{ℕ, zero, suc, _+_, _*_, _%_, _^_, _<_, _≤_}
+use mathlib.Core.List.{List, _∷_}
+use Prim.Native.Nat.{ℕ, zero, suc, _+_, _%_, _^_, _<_, _≤_}
 use native.Mathlib.Nat.{zero-mod, add-comm, le-of-suc-le-suc, not-suc-le-zero}
 use native.Mathlib.Omega.{arith}
 use lib.ListN.{length, length-map}
@@ -11,9 +11,9 @@ use lib.Pow.{pow-pos}
 use Rattle.word.proofs.Modulo.{add-same, cancel}
 use Rattle.chain.specs.Chain.{value, rest, words, trimmed, row}
 use Rattle.chain.specs.SumChain.{sumAt}
-use Rattle.chain.proofs.Values as Values
 use Rattle.chain.proofs.SumLaws.{sum-now, sum-next}
 use Rattle.chain.proofs.Trimming.{trimmed-row}
+use Rattle.chain.proofs.Values as Values
 
 -- A row of n elements has the chain's first n values.
 pub value-row : (n : ℕ) (f : List ℕ) (i : ℕ) → i < n → sumAt (row n f) i ≡ sumAt f i
@@ -40,8 +40,8 @@ same-row w zero f g same = refl
 same-row w (suc n) f g same =
     row-words w n f
     ∙ ap₂ {B = List ℕ} {C = List ℕ} _∷_
-      (ap (λ z. z % 2 ^ w) (sym (sum-now f)) ∙ same 0 (omega arith) ∙ ap (λ z. z % 2 ^ w) (sum-now g))
-      (same-row w n (rest f) (rest g) below)
+    (ap (λ z. z % 2 ^ w) (sym (sum-now f)) ∙ same 0 (omega arith) ∙ ap (λ z. z % 2 ^ w) (sum-now g))
+    (same-row w n (rest f) (rest g) below)
     ∙ sym (row-words w n g)
   where
     below : (i : ℕ) → i < n → sumAt (rest f) i % 2 ^ w ≡ sumAt (rest g) i % 2 ^ w

@@ -2,7 +2,7 @@
 -- The chain of i^j has the elements m! * S(j, m), since the chain of i * f has the elements m * (fm + f(m-1)).
 use mathlib.Core.Path.{_≡_, refl, sym, ap, ap₂, _∙_}
 use mathlib.Core.List.{List, [], _∷_}
-use Prim.Native.Nat.{ℕ, zero, suc, _+_, _-_, _*_, _%_, _^_, _<_, _≤_}
+use Prim.Native.Nat.{ℕ, zero, suc, _+_, _*_, _%_, _^_, _<_, _≤_}
 use native.Mathlib.Nat.{add-zero, mul-zero, zero-mul, mod-add-mod, add-mod-mod, mod-eq-of-lt, zero-mod, zero-add, pow-zero, pow-suc, add-suc, suc-add, le-of-suc-le-suc, not-suc-le-zero}
 use native.Mathlib.Omega.{arith}
 use native.Mathlib.Numerals.{add-one}
@@ -11,10 +11,10 @@ use lib.Seq.{drop-cons}
 use Rattle.chain.specs.Chain.{joined, words, trimmed, row}
 use Rattle.chain.specs.SumChain.{sumAt, sum, scaled}
 use Rattle.chain.specs.Coefficients.{stirling, factorial, onto, polynomialFrom, polynomial, elementFrom, tabulated, fromCoefficients}
-use Rattle.chain.proofs.Values as Values
 use Rattle.chain.proofs.Rows.{entry-map, row-whole}
 use Rattle.chain.proofs.SumLaws.{sum-now, sum-next, sum-none, sum-constant, value-sum, value-scaled, value-words}
 use Rattle.chain.proofs.Trimming.{value-trimmed-sum}
+use Rattle.chain.proofs.Values as Values
 
 -- ---- the chain of i * f
 byIndex : ℕ → ℕ → List ℕ → List ℕ
@@ -116,8 +116,8 @@ value-from (a ∷ later) j n i h =
     ap (λ f. sumAt f i) (tabulated-linear a (onto j) (elementFrom (suc j) later) 0 n)
     ∙ value-sum (scaled a (tabulated (onto j) 0 n)) (tabulated (elementFrom (suc j) later) 0 n) i
     ∙ ap₂ _+_
-      (value-scaled a (tabulated (onto j) 0 n) i ∙ ap (λ z. a * z) (value-onto j n i (omega arith)))
-      (value-from later (suc j) n i (omega arith))
+    (value-scaled a (tabulated (onto j) 0 n) i ∙ ap (λ z. a * z) (value-onto j n i (omega arith)))
+    (value-from later (suc j) n i (omega arith))
 
 -- The chain of up to 17 coefficients has the polynomial's value at every index, trimmed and reduced too.
 pub value-coefficients : (a : List ℕ) (i : ℕ) → length a ≤ 17 → sumAt (fromCoefficients a) i ≡ polynomial a i
@@ -151,6 +151,7 @@ element-turn M a j m total h e q =
   where
     swap : (x y z : ℕ) → x + y + z ≡ x + z + y
     swap x y z = omega arith
+
     back : (x y z : ℕ) → x + z + y ≡ x + (y + z)
     back x y z = omega arith
 

@@ -11,3 +11,4 @@ pub mod Calls
 pub mod Tables
 pub mod CoefficientLaws
 pub mod OntoTable
+pub mod Promises

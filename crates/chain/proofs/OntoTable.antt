@@ -1,11 +1,11 @@
 -- The table of 289 numbers: its recurrence is one test over all entries, and the law that gives each entry follows.
-use mathlib.Core.Path.{_≡_, refl, sym, ap, ap₂, _∙_, subst}
-use mathlib.Core.Bool.{Bool, true, false, cond}
+use mathlib.Core.Path.{_≡_, sym, ap, ap₂, _∙_}
+use mathlib.Core.Bool.{Bool, cond}
 use mathlib.Core.List.{List, [], _∷_}
-use Prim.Native.Nat.{ℕ, zero, suc, _+_, _-_, _*_, _/_, _%_, _<_, _≤_}
+use Prim.Native.Nat.{ℕ, zero, suc, _+_, _-_, _*_, _%_, _<_}
 use native.Mathlib.Omega.{arith}
-use lib.Dec.{T, eqb, ltb, eqb→eq, eqb·suc-zero}
-use lib.ListN.{length, getD}
+use lib.Dec.{eqb, ltb, eqb→eq, eqb·suc-zero}
+use lib.ListN.{getD}
 use borrow.Author.Tests.{lt-ltb, le-ltb, eq-eqb, ne-eqb}
 use Rattle.chain.specs.Coefficients.{onto}
 use Rattle.chain.proofs.Tables.{at-entry}
@@ -61,15 +61,17 @@ table-entry (suc j) zero p q = recurrence (17 * suc j + 0) (omega arith) ∙ rw 
 table-entry (suc j) (suc m) p q =
     recurrence (17 * suc j + suc m) (omega arith)
     ∙ rw (le-ltb (17 * suc j + suc m) 17 (omega arith), ne-eqb ((17 * suc j + suc m) % 17) 0 (omega arith))
-      (ap₂ _*_ column
-      (ap₂ _+_
-      (ap (λ k. getD table k 0) above ∙ table-entry j (suc m) (omega arith) q)
-      (ap (λ k. getD table k 0) before ∙ table-entry j m (omega arith) (omega arith))))
+    (ap₂ _*_ column
+    (ap₂ _+_
+    (ap (λ k. getD table k 0) above ∙ table-entry j (suc m) (omega arith) q)
+    (ap (λ k. getD table k 0) before ∙ table-entry j m (omega arith) (omega arith))))
     ∙ sym (onto-next j m)
   where
     column : (17 * suc j + suc m) % 17 ≡ suc m
     column = omega arith
+
     above : 17 * suc j + suc m - 17 ≡ 17 * j + suc m
     above = omega arith
+
     before : 17 * suc j + suc m - 18 ≡ 17 * j + m
     before = omega arith

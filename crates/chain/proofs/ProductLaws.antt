@@ -1,18 +1,17 @@
 -- Product chains: the value after i shifts of a product, a scaling, a power, a trimmed chain and a raise, at every index.
-use mathlib.Core.Path.{_≡_, refl, sym, ap, ap₂, _∙_}
-use mathlib.Core.List.{List, [], _∷_, map}
-use Prim.Native.Nat.{ℕ, zero, suc, _+_, _*_, _%_, _^_}
-use native.Mathlib.Nat.{add-zero, mul-one, mul-assoc, mod-mod, zero-mul, pow-zero, pow-suc}
+use mathlib.Core.Path.{_≡_, sym, ap, _∙_}
+use mathlib.Core.List.{List}
+use Prim.Native.Nat.{ℕ, _+_, _*_, _%_, _^_}
+use native.Mathlib.Nat.{add-zero, mul-one, mul-assoc, mod-mod, pow-zero}
 use native.Mathlib.Omega.{arith}
 use lib.Pow.{pow-add}
-use lib.Dec.{eqb}
-use Rattle.word.specs.Word as Word
 use Rattle.word.proofs.Modulo.{mul-same}
 use Rattle.word.proofs.Ring.{pow-of-mul}
 use Rattle.word.proofs.OddBase.{odd-base, one-pow}
-use Rattle.chain.specs.Chain.{value, rest, words, trimmed}
+use Rattle.chain.specs.Chain.{words}
 use Rattle.chain.specs.SumChain.{sumAt}
-use Rattle.chain.specs.ProductChain.{productAt, jointProduct, scaledFirst, powerOfEach, raised, trimmedProduct}
+use Rattle.chain.specs.ProductChain.{productAt, jointProduct, scaledFirst, powerOfEach, raised}
+use Rattle.word.specs.Word as Word
 use Rattle.chain.proofs.Values as Values
 use Rattle.chain.proofs.SumLaws as SumLaws
 

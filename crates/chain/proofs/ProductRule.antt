@@ -1,7 +1,7 @@
 -- The product by document 000's rule on rows of 17 words: the two constant cases, the recursive one, and what lies past a length.
 use mathlib.Core.Path.{_≡_, refl, sym, ap, ap₂, _∙_}
 use mathlib.Core.Bool.{Bool, true, false}
-use mathlib.Core.List.{List, [], _∷_, map}
+use mathlib.Core.List.{List, _∷_}
 use Prim.Native.Nat.{ℕ, zero, suc, _+_, _-_, _*_, _%_, _^_, _<_, _≤_}
 use native.Mathlib.Nat.{add-zero, zero-mod, mul-comm, le-of-suc-le-suc, not-suc-le-zero}
 use native.Mathlib.Omega.{arith}
@@ -56,10 +56,10 @@ module _ (w n : ℕ) (f g : List ℕ) where
   constant-right none =
       same-row w n (scaled (getD g 0 0) f) (product f g)
       (λ i h. ap (λ z. z % 2 ^ w)
-        (value-scaled (getD g 0 0) f i
-        ∙ ap (λ z. z * sumAt f i) (sym (value-single g none i))
-        ∙ mul-comm (sumAt g i) (sumAt f i)
-        ∙ sym (value-product f g i)))
+      (value-scaled (getD g 0 0) f i
+      ∙ ap (λ z. z * sumAt f i) (sym (value-single g none i))
+      ∙ mul-comm (sumAt g i) (sumAt f i)
+      ∙ sym (value-product f g i)))
 
   -- ---- the rule
   row-short : (n k : ℕ) (f : List ℕ) → n ≤ k → row n (row k f) ≡ row n f
@@ -73,9 +73,9 @@ module _ (w n : ℕ) (f g : List ℕ) where
       ap (λ z. z % 2 ^ w) (value-row (suc n) (words w (product f (row (suc n) (rest g)))) i h)
       ∙ value-words w (product f (row (suc n) (rest g))) i
       ∙ ap (λ z. z % 2 ^ w)
-        (value-product f (row (suc n) (rest g)) i
-        ∙ ap (λ z. sumAt f i * z) (value-row (suc n) (rest g) i h)
-        ∙ sym (value-product f (rest g) i))
+      (value-product f (row (suc n) (rest g)) i
+      ∙ ap (λ z. sumAt f i * z) (value-row (suc n) (rest g) i h)
+      ∙ sym (value-product f (rest g) i))
 
   right-value : (i : ℕ) → i < suc n
       → sumAt (row (suc n) (words w (product (row (suc n) (rest f)) (words w (sumShift g))))) i % 2 ^ w ≡ sumAt (product (rest f) (sumShift g)) i % 2 ^ w
@@ -84,7 +84,7 @@ module _ (w n : ℕ) (f g : List ℕ) where
       ∙ value-words w (product (row (suc n) (rest f)) (words w (sumShift g))) i
       ∙ ap (λ z. z % 2 ^ w) (value-product (row (suc n) (rest f)) (words w (sumShift g)) i)
       ∙ mul-same (2 ^ w) (sumAt (row (suc n) (rest f)) i) (sumAt (rest f) i) (sumAt (words w (sumShift g)) i) (sumAt (sumShift g) i)
-        (ap (λ z. z % 2 ^ w) (value-row (suc n) (rest f) i h)) (value-words w (sumShift g) i)
+      (ap (λ z. z % 2 ^ w) (value-row (suc n) (rest f) i h)) (value-words w (sumShift g) i)
       ∙ ap (λ z. z % 2 ^ w) (sym (value-product (rest f) (sumShift g) i))
 
   pub rule : {a : ℕ} {left right : List ℕ} → a ≡ (getD f 0 0 * getD g 0 0) % 2 ^ w
@@ -102,6 +102,6 @@ module _ (w n : ℕ) (f g : List ℕ) where
       agree i h =
           ap (λ z. z % 2 ^ w) (value-sum left right i)
           ∙ add-same (2 ^ w) (sumAt left i) (sumAt (product f (rest g)) i) (sumAt right i) (sumAt (product (rest f) (sumShift g)) i)
-            (ap (λ c. sumAt c i % 2 ^ w) l ∙ left-value i (omega arith))
-            (ap (λ c. sumAt c i % 2 ^ w) r ∙ right-value i (omega arith))
+          (ap (λ c. sumAt c i % 2 ^ w) l ∙ left-value i (omega arith))
+          (ap (λ c. sumAt c i % 2 ^ w) r ∙ right-value i (omega arith))
           ∙ ap (λ z. z % 2 ^ w) (sym (product-rest f g i))

@@ -7,10 +7,10 @@ use native.Mathlib.Numerals.{add-one}
 use native.Mathlib.Omega.{arith}
 use lib.ListN.{length, getD, take, drop, set}
 use lib.Seq.{take-nil, take-suc, drop-cons, append-snoc, set-at, getD-append-add, take-length, drop-length, length-take-le}
+use Rattle.chain.specs.Chain.{value, rest, joined, words, row}
+use Rattle.chain.specs.SumChain.{sum, difference, scaled, sumShift}
 use Rattle.word.specs.Word as Word
 use Rattle.word.proofs.Ring as Ring
-use Rattle.chain.specs.Chain.{value, rest, shift, joined, words, row}
-use Rattle.chain.specs.SumChain.{sum, difference, scaled, sumShift}
 use Rattle.chain.proofs.Values as Values
 
 -- ---- entries

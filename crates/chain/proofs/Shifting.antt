@@ -1,7 +1,7 @@
 -- A sum chain shifted in place, from the bottom up: what an array holds after i of the replacements.
 use mathlib.Core.Path.{_≡_, refl, sym, ap, ap₂, _∙_}
-use mathlib.Core.List.{List, [], _∷_, map}
-use Prim.Native.Nat.{ℕ, zero, suc, _+_, _-_, _%_, _^_, _<_, _≤_}
+use mathlib.Core.List.{List, [], _∷_}
+use Prim.Native.Nat.{ℕ, suc, _+_, _%_, _^_, _<_, _≤_}
 use native.Mathlib.Nat.{add-zero, mod-eq-of-lt}
 use native.Mathlib.Numerals.{add-one}
 use native.Mathlib.Omega.{arith}
@@ -30,12 +30,12 @@ module _ (w : ℕ) (f : List ℕ) where
   shift-turn i {r} {v} h e q =
       ap (λ l. set l i v) e
       ∙ turned-set i (words w (sumShift f)) f length-shifted (omega arith)
-        (q
-        ∙ ap (λ l. (getD l i 0 + getD l (i + 1) 0) % 2 ^ w) e
-        ∙ ap₂ (λ a b. (a + b) % 2 ^ w)
-          (ap (λ k. getD (turned i (words w (sumShift f)) f) k 0) (sym (add-zero i)) ∙ still i 0 (omega arith) ∙ ap (λ k. getD f k 0) (add-zero i))
-          (still i 1 (omega arith) ∙ ap (λ k. getD f k 0) (add-one i))
-        ∙ sym (entry-shifted w f i))
+      (q
+      ∙ ap (λ l. (getD l i 0 + getD l (i + 1) 0) % 2 ^ w) e
+      ∙ ap₂ (λ a b. (a + b) % 2 ^ w)
+      (ap (λ k. getD (turned i (words w (sumShift f)) f) k 0) (sym (add-zero i)) ∙ still i 0 (omega arith) ∙ ap (λ k. getD f k 0) (add-zero i))
+      (still i 1 (omega arith) ∙ ap (λ k. getD f k 0) (add-one i))
+      ∙ sym (entry-shifted w f i))
       ∙ ap (λ k. turned k (words w (sumShift f)) f) (sym (add-one i))
 
   -- When only the last element is left, it is kept, and all is done.
@@ -45,10 +45,10 @@ module _ (w : ℕ) (f : List ℕ) where
       e
       ∙ sym (set-getD (turned i (words w (sumShift f)) f) i 0)
       ∙ turned-set i (words w (sumShift f)) f length-shifted (omega arith)
-        (ap (λ k. getD (turned i (words w (sumShift f)) f) k 0) (sym (add-zero i))
-        ∙ still i 0 (omega arith)
-        ∙ ap (λ k. getD f k 0) (add-zero i)
-        ∙ sym (mod-eq-of-lt fits)
-        ∙ ap (λ z. z % 2 ^ w) (sym (add-zero (getD f i 0)) ∙ ap (λ z. getD f i 0 + z) (sym (List·getD-eq-default f 0 {n = suc i} (omega arith))))
-        ∙ sym (entry-shifted w f i))
+      (ap (λ k. getD (turned i (words w (sumShift f)) f) k 0) (sym (add-zero i))
+      ∙ still i 0 (omega arith)
+      ∙ ap (λ k. getD f k 0) (add-zero i)
+      ∙ sym (mod-eq-of-lt fits)
+      ∙ ap (λ z. z % 2 ^ w) (sym (add-zero (getD f i 0)) ∙ ap (λ z. getD f i 0 + z) (sym (List·getD-eq-default f 0 {n = suc i} (omega arith))))
+      ∙ sym (entry-shifted w f i))
       ∙ turned-all (suc i) (words w (sumShift f)) f (length-shifted ∙ omega arith) (omega arith)

@@ -5,12 +5,11 @@ use mathlib.Core.List.{List, [], _∷_, map}
 use Prim.Native.Nat.{ℕ, zero, suc, _+_, _-_, _*_, _%_, _^_}
 use native.Mathlib.Nat.{add-zero, mul-zero, mul-add, mod-mod, pow-zero, pow-suc}
 use native.Mathlib.Omega.{arith}
-use lib.Pow.{pow-pos}
-use Rattle.word.specs.Word as Word
-use Rattle.word.proofs.Modulo.{add-same, undone}
-use Rattle.word.proofs.Ring as Ring
+use Rattle.word.proofs.Modulo.{add-same}
 use Rattle.chain.specs.Chain.{value, rest, shift, joined, words}
 use Rattle.chain.specs.SumChain.{sumAt, sumShift, sum, difference, scaled, times, product, power}
+use Rattle.word.specs.Word as Word
+use Rattle.word.proofs.Ring as Ring
 use Rattle.chain.proofs.Values as Values
 
 pub sum-now : (f : List ℕ) → sumAt f 0 ≡ value 0 f
@@ -98,9 +97,9 @@ value-product f g zero = sum-now (product f g) ∙ product-value f g ∙ sym (ap
 value-product f g (suc i) =
     sum-next (product f g) i
     ∙ ap₂ _+_ (value-product f g i)
-      (product-rest f g i
-      ∙ ap₂ _+_ (value-product f (rest g) i)
-        (value-product (rest f) (sumShift g) i ∙ ap (λ z. sumAt (rest f) i * z) (sum-shift g i ∙ sum-next g i)))
+    (product-rest f g i
+    ∙ ap₂ _+_ (value-product f (rest g) i)
+    (value-product (rest f) (sumShift g) i ∙ ap (λ z. sumAt (rest f) i * z) (sum-shift g i ∙ sum-next g i)))
     ∙ spread (sumAt f i) (sumAt g i) (sumAt (rest f) i) (sumAt (rest g) i)
     ∙ sym (ap₂ _*_ (sum-next f i) (sum-next g i))
   where

@@ -1,18 +1,18 @@
 -- Trimming: it changes no value, and a sum chain's shift keeps the trimmed length.
 use mathlib.Core.Path.{_≡_, refl, sym, ap, ap₂, _∙_}
 use mathlib.Core.Bool.{Bool, true, false, cond}
-use mathlib.Core.List.{List, [], _∷_, map}
+use mathlib.Core.List.{List, [], _∷_}
 use Prim.Native.Nat.{ℕ, zero, suc, _+_, _-_, _*_, _%_, _^_, _<_, _≤_}
-use native.Mathlib.Nat.{add-zero, mul-one, zero-mul, zero-mod, mod-mod, add-mod-mod, le-of-suc-le-suc, not-suc-le-zero}
+use native.Mathlib.Nat.{add-zero, mul-one, zero-mul, add-mod-mod, le-of-suc-le-suc, not-suc-le-zero}
 use native.Mathlib.Omega.{arith}
 use lib.Dec.{eqb, ltb}
-use lib.ListN.{length, getD, length-map, List·getD-eq-default}
+use lib.ListN.{length, getD, List·getD-eq-default}
 use borrow.Author.Tests.{eqb-true, ne-eqb, ltb-true, ltb-false}
 use Rattle.chain.specs.Chain.{value, rest, shift, valueAt, words, withLast, withoutTrailing, trimmed, row}
 use Rattle.chain.specs.SumChain.{sumAt, sumShift}
 use Rattle.chain.specs.ProductChain.{productAt, trimmedProduct}
-use Rattle.chain.proofs.Values as Values
 use Rattle.chain.proofs.Rows.{entry-rest, entry-row}
+use Rattle.chain.proofs.Values as Values
 
 -- ---- values, for any operation with a unit
 module _ (_⊙_ : ℕ → ℕ → ℕ) (unit : ℕ) (right-unit : (a : ℕ) → _⊙_ a unit ≡ a) where

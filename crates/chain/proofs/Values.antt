@@ -101,10 +101,10 @@ module _ (_⊙_ : ℕ → ℕ → ℕ) (unit : ℕ) (right-unit : (a : ℕ) → 
   value-reduced m same twice f (suc i) =
       ap (λ z. z % m) (value-next (map (λ a. a % m) f) i)
       ∙ same
-        (valueAt _⊙_ unit (map (λ a. a % m) f) i) (valueAt _⊙_ unit f i)
-        (valueAt _⊙_ unit (rest (map (λ a. a % m) f)) i) (valueAt _⊙_ unit (rest f) i)
-        (value-reduced m same twice f i)
-        (ap (λ h. valueAt _⊙_ unit h i % m) (rest-map (λ a. a % m) f) ∙ value-reduced m same twice (rest f) i)
+      (valueAt _⊙_ unit (map (λ a. a % m) f) i) (valueAt _⊙_ unit f i)
+      (valueAt _⊙_ unit (rest (map (λ a. a % m) f)) i) (valueAt _⊙_ unit (rest f) i)
+      (value-reduced m same twice f i)
+      (ap (λ h. valueAt _⊙_ unit h i % m) (rest-map (λ a. a % m) f) ∙ value-reduced m same twice (rest f) i)
       ∙ ap (λ z. z % m) (sym (value-next f i))
 
 -- A map that takes ⊙ to ⊛ and the unit to the unit takes the value to the value.
@@ -116,7 +116,7 @@ value-mapped _⊙_ _⊛_ unit there left right h e hom f zero =
 value-mapped _⊙_ _⊛_ unit there left right h e hom f (suc i) =
     value-next _⊛_ there right (map h f) i
     ∙ ap₂ _⊛_
-      (value-mapped _⊙_ _⊛_ unit there left right h e hom f i)
-      (ap (λ g. valueAt _⊛_ there g i) (rest-map h f) ∙ value-mapped _⊙_ _⊛_ unit there left right h e hom (rest f) i)
+    (value-mapped _⊙_ _⊛_ unit there left right h e hom f i)
+    (ap (λ g. valueAt _⊛_ there g i) (rest-map h f) ∙ value-mapped _⊙_ _⊛_ unit there left right h e hom (rest f) i)
     ∙ sym (hom (valueAt _⊙_ unit f i) (valueAt _⊙_ unit (rest f) i))
     ∙ ap h (sym (value-next _⊙_ unit left f i))

@@ -134,6 +134,7 @@ pub fn product_words(f: [u64; 17], k: usize, g: [u64; 17], l: usize) -> [u64; 17
     }
     let first = word::times(f[0], g[0]);
     let left = product_words(f, k, rest_words(g), l - 1);
-    let right = product_words(rest_words(f), k - 1, shift_words(g), l);
+    let shifted = shift_words(g);
+    let right = product_words(rest_words(f), k - 1, shifted, l);
     preceded(first, sum_words(left, right))
 }

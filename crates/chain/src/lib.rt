@@ -4,10 +4,14 @@ mod arrays;
 mod coefficients;
 
 pub use coefficients::from_coefficients;
-
 ghost use mathlib.Core.Path.{_≡_};
 ghost use Rattle.chain.specs.Chain.{trimmed};
 ghost use Rattle.chain.specs.Answer.{answered, refused, chain, trimOutcome, sumOutcome, differenceOutcome, productOutcome, shiftOutcome, valueAnswer};
+
+// The longest chain, and the longest product.
+const LONGEST: usize = 16;
+
+const LONGEST_PRODUCT: usize = 16;
 
 // A refusal's number and place, 0 and 0 if accepted, and the trimmed chain: its length and its elements, 0 past them.
 pub struct ChainAnswer {
@@ -52,51 +56,54 @@ fn accepted(elements: [u64; 17]) -> ChainAnswer
 pub fn trim(f: [u64; 17], k: usize) -> ChainAnswer
     ensures { λ r. ⌜ r ≡ answered (trimOutcome f k) ⌝ }
 {
-    if 16 < k {
+    if LONGEST < k {
         return refusal(14);
     }
-    accepted(arrays::kept(f, k))
+    let kept = arrays::kept(f, k);
+    accepted(kept)
 }
 
 pub fn sum(f: [u64; 17], k: usize, g: [u64; 17], l: usize) -> ChainAnswer
     ensures { λ r. ⌜ r ≡ answered (sumOutcome 64 f k g l) ⌝ }
 {
-    if 16 < k {
+    if LONGEST < k {
         return refusal(14);
     }
-    if 16 < l {
+    if LONGEST < l {
         return refusal(14);
     }
-    accepted(arrays::sum_words(arrays::kept(f, k), arrays::kept(g, l)))
+    let sum = arrays::sum_words(arrays::kept(f, k), arrays::kept(g, l));
+    accepted(sum)
 }
 
 pub fn difference(f: [u64; 17], k: usize, g: [u64; 17], l: usize) -> ChainAnswer
     ensures { λ r. ⌜ r ≡ answered (differenceOutcome 64 f k g l) ⌝ }
 {
-    if 16 < k {
+    if LONGEST < k {
         return refusal(14);
     }
-    if 16 < l {
+    if LONGEST < l {
         return refusal(14);
     }
-    accepted(arrays::difference_words(arrays::kept(f, k), arrays::kept(g, l)))
+    let difference = arrays::difference_words(arrays::kept(f, k), arrays::kept(g, l));
+    accepted(difference)
 }
 
 // Refused 15 where the trimmed lengths add over 16.
 pub fn product(f: [u64; 17], k: usize, g: [u64; 17], l: usize) -> ChainAnswer
     ensures { λ r. ⌜ r ≡ answered (productOutcome 64 f k g l) ⌝ }
 {
-    if 16 < k {
+    if LONGEST < k {
         return refusal(14);
     }
-    if 16 < l {
+    if LONGEST < l {
         return refusal(14);
     }
     let f_kept = arrays::kept(f, k);
     let g_kept = arrays::kept(g, l);
     let f_trimmed = arrays::trimmed_length(f_kept);
     let g_trimmed = arrays::trimmed_length(g_kept);
-    if 16 < f_trimmed + g_trimmed {
+    if LONGEST_PRODUCT < f_trimmed + g_trimmed {
         return refusal(15);
     }
     accepted(arrays::product_words(f_kept, f_trimmed, g_kept, g_trimmed))
@@ -105,7 +112,7 @@ pub fn product(f: [u64; 17], k: usize, g: [u64; 17], l: usize) -> ChainAnswer
 pub fn shift(f: [u64; 17], k: usize) -> ChainAnswer
     ensures { λ r. ⌜ r ≡ answered (shiftOutcome 64 f k) ⌝ }
 {
-    if 16 < k {
+    if LONGEST < k {
         return refusal(14);
     }
     accepted(arrays::shift_words(arrays::kept(f, k)))
@@ -115,7 +122,7 @@ pub fn shift(f: [u64; 17], k: usize) -> ChainAnswer
 pub fn value(f: [u64; 17], k: usize) -> ValueAnswer
     ensures { λ r. ⌜ r ≡ valueAnswer f k ⌝ }
 {
-    if 16 < k {
+    if LONGEST < k {
         return ValueAnswer {
             number: 14,
             place: 0,

@@ -1,8 +1,7 @@
 -- The product of two words from their half words: with H the number of half words, the product modulo H * H.
-use mathlib.Core.Path.{_≡_, refl, sym, ap, _∙_}
-use Prim.Native.Nat.{ℕ, _+_, _*_, _/_, _%_, _^_, _≤_, _<_}
-use native.Mathlib.Nat.{mod-add-mod, add-mod-mod, mod-mod, div-add-mod', mul-add-mod-self-right}
-use native.Mathlib.Nat.{lt-of-le-of-lt, le-of-lt, mul-le-mul-left, mul-lt-mul-of-pos-right}
+use mathlib.Core.Path.{_≡_, sym, ap, _∙_}
+use Prim.Native.Nat.{ℕ, _+_, _*_, _/_, _%_, _<_}
+use native.Mathlib.Nat.{mod-add-mod, add-mod-mod, div-add-mod', mul-add-mod-self-right, lt-of-le-of-lt, le-of-lt, mul-le-mul-left, mul-lt-mul-of-pos-right}
 use native.Mathlib.Omega.{arith}
 
 pub halves-fit : (H : ℕ) {a b : ℕ} → 0 < H → a < H → b < H → a * b < H * H

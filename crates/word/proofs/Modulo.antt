@@ -1,7 +1,7 @@
 -- Remainders under sums, products and powers, for every modulus m: the laws that the ring of words rests on.
 -- `outward` is the list for `simp`: it takes an inner remainder off wherever an outer one stands.
-use mathlib.Core.Path.{_≡_, refl, sym, ap, _∙_}
-use Prim.Native.Nat.{ℕ, zero, suc, _+_, _-_, _*_, _/_, _%_, _^_, _≤_, _<_}
+use mathlib.Core.Path.{_≡_, sym, ap, _∙_}
+use Prim.Native.Nat.{ℕ, zero, suc, _+_, _-_, _*_, _/_, _%_, _^_, _<_}
 use native.Mathlib.Nat.{mod-mod, mod-lt, mod-add-mod, add-mod-mod, add-mod-right, div-add-mod', mul-add-mod-self-right, mul-mod-left, zero-mod, not-suc-le-zero, mul-comm, pow-zero, pow-suc}
 use native.Mathlib.Omega.{arith}
 

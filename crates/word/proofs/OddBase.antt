@@ -1,7 +1,7 @@
 -- The odd-base fact: the powers of an odd base repeat with a period that divides 2^w, so the exponent may be taken modulo 2^w.
 -- Even bases have no such law: 2 to the word 0 is 1, but 2 to the 2^64 is 0 modulo 2^64.
-use mathlib.Core.Path.{_≡_, refl, sym, ap, _∙_}
-use Prim.Native.Nat.{ℕ, zero, suc, _+_, _-_, _*_, _/_, _%_, _^_, _≤_, _<_}
+use mathlib.Core.Path.{_≡_, sym, ap, _∙_}
+use Prim.Native.Nat.{ℕ, zero, suc, _+_, _*_, _/_, _%_, _^_}
 use native.Mathlib.Nat.{div-add-mod', add-mul-mod-self-right, pow-zero, pow-suc, mul-comm}
 use native.Mathlib.Omega.{arith}
 use lib.Pow.{pow-add}

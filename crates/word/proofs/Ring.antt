@@ -1,7 +1,7 @@
 -- The ring laws of words, over the width w: sum, difference, negation, product and power as specs/Word.antt defines them.
 -- The odd bases, whose exponents may be reduced too, are in OddBase.antt.
-use mathlib.Core.Path.{_≡_, refl, sym, ap, _∙_}
-use Prim.Native.Nat.{ℕ, zero, suc, _+_, _-_, _*_, _/_, _%_, _^_, _≤_, _<_}
+use mathlib.Core.Path.{_≡_, sym, ap, _∙_}
+use Prim.Native.Nat.{ℕ, zero, suc, _+_, _-_, _*_, _%_, _^_, _<_}
 use native.Mathlib.Nat.{mod-mod, mod-lt, mod-eq-of-lt, mod-add-mod, add-mod-mod, zero-mod, pow-zero, pow-suc, mul-zero, mul-suc}
 use native.Mathlib.Omega.{arith}
 use lib.Pow.{pow-pos, pow-add}

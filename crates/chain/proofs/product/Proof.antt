@@ -1,82 +1,61 @@
-use mathlib.Core.Path.{_≡_, _∙_, sym, ap, refl}
-use native.Mathlib.Omega.{arith}
-use borrow.Author.Tests.{lt-ltb, le-ltb}
+use mathlib.Core.Path.{_≡_}
 use Prim.Native.Nat.{_+_, _-_, _<_, _≤_}
+use native.Mathlib.Omega.{arith}
 use lib.ListN.{length}
+use borrow.Author.Tests.{lt-ltb, le-ltb}
+use borrow.Author.Needs.{needs}
 use Rattle.chain.specs.Answer.{given}
 use Rattle.chain.proofs.Calls.{kept-length, length-given, past-trimmed, product-trims}
-use borrow.Author.Needs.{needs}
 use Rattle.chain.proofs.product.Statement.{statement}
 use Rattle.chain.proofs.product.Tie as tie
-use Rattle.chain.proofs.product.Reads as reads
-use Rattle.chain.proofs.product.Lts as lts
-use Rattle.chain.proofs.accepted.Reads as accepted-reads
-use Rattle.chain.proofs.arrays.kept.Reads as kept-reads
-use Rattle.chain.proofs.arrays.product_words.Reads as product-words-reads
-use Rattle.chain.proofs.arrays.trimmed_length.Reads as trimmed-length-reads
-use Rattle.chain.proofs.refusal.Reads as refusal-reads
 
--- src/lib.rt:90:9
 refusal-requires : tie.Need-refusal-requires
 refusal-requires c κs = search needs
 
--- src/lib.rt:90:9
 returns : tie.Need-returns
-returns c = rw ((c .refusal .ensures), lt-ltb _ _ ((c .before .if1 .taken)))
+returns c = rw ((c .refusal .ensures), lt-ltb _ _ (c .before .if1 .taken))
 
--- src/lib.rt:93:9
 refusal-requires-2 : tie.Need-refusal-requires-2
 refusal-requires-2 c κs = search needs
 
--- src/lib.rt:93:9
 returns-2 : tie.Need-returns-2
-returns-2 c = rw ((c .refusal2 .ensures), le-ltb _ _ ((c .before .before .if1 .left)), lt-ltb _ _ ((c .before .if2 .taken)))
+returns-2 c = rw ((c .refusal2 .ensures), le-ltb _ _ (c .before .before .if1 .left), lt-ltb _ _ (c .before .if2 .taken))
 
--- src/lib.rt:95:9
 kept-requires : tie.Need-kept-requires
 kept-requires c κs = search needs
 
--- src/lib.rt:96:9
 kept-requires-2 : tie.Need-kept-requires-2
 kept-requires-2 c κs = search needs
 
--- src/lib.rt:97:9
 trimmed-length-requires : tie.Need-trimmed-length-requires
 trimmed-length-requires c κs = search needs
 
--- src/lib.rt:98:9
 trimmed-length-requires-2 : tie.Need-trimmed-length-requires-2
 trimmed-length-requires-2 c κs = search needs
 
--- src/lib.rt:99:13
 add-if3 : tie.Need-add-if3
-add-if3 c = omega (arith, kept-length ((c .before .before .before .before .before .before .args .f)) ((c .before .before .before .before .before .before .args .k)) (search needs) ((c .before .trimmed-length .ensures)) ((c .before .before .before .kept .ensures)), length-given ((c .before .before .before .before .before .before .args .f)) ((c .before .before .before .before .before .before .args .k)) (search needs), kept-length ((c .before .before .before .before .before .before .args .g)) ((c .before .before .before .before .before .before .args .l)) (search needs) ((c .trimmed-length2 .ensures)) ((c .before .before .kept2 .ensures)), length-given ((c .before .before .before .before .before .before .args .g)) ((c .before .before .before .before .before .before .args .l)) (search needs))
+add-if3 c = omega (arith, kept-length (c .before .before .before .before .before .before .args .f) (c .before .before .before .before .before .before .args .k) (search needs) (c .before .trimmed-length .ensures) (c .before .before .before .kept .ensures), length-given (c .before .before .before .before .before .before .args .f) (c .before .before .before .before .before .before .args .k) (search needs), kept-length (c .before .before .before .before .before .before .args .g) (c .before .before .before .before .before .before .args .l) (search needs) (c .trimmed-length2 .ensures) (c .before .before .kept2 .ensures), length-given (c .before .before .before .before .before .before .args .g) (c .before .before .before .before .before .before .args .l) (search needs))
 
--- src/lib.rt:100:9
 refusal-requires-3 : tie.Need-refusal-requires-3
 refusal-requires-3 c κs = search needs
 
--- src/lib.rt:100:9
 returns-3 : tie.Need-returns-3
-returns-3 c = let f-length : (c .before .before .before .trimmed-length .result) ≡ length (given ((c .before .before .before .before .before .before .before .before .args .f)) ((c .before .before .before .before .before .before .before .before .args .k))) - 1 = kept-length ((c .before .before .before .before .before .before .before .before .args .f)) ((c .before .before .before .before .before .before .before .before .args .k)) (search needs) ((c .before .before .before .trimmed-length .ensures)) ((c .before .before .before .before .before .kept .ensures)) in
-    let g-length : (c .before .before .trimmed-length2 .result) ≡ length (given ((c .before .before .before .before .before .before .before .before .args .g)) ((c .before .before .before .before .before .before .before .before .args .l))) - 1 = kept-length ((c .before .before .before .before .before .before .before .before .args .g)) ((c .before .before .before .before .before .before .before .before .args .l)) (search needs) ((c .before .before .trimmed-length2 .ensures)) ((c .before .before .before .before .kept2 .ensures)) in
-    let over : 16 < (length (given ((c .before .before .before .before .before .before .before .before .args .f)) ((c .before .before .before .before .before .before .before .before .args .k))) - 1) + (length (given ((c .before .before .before .before .before .before .before .before .args .g)) ((c .before .before .before .before .before .before .before .before .args .l))) - 1) = omega arith in
-    rw ((c .refusal3 .ensures), le-ltb _ _ ((c .before .before .before .before .before .before .before .if1 .left)), le-ltb _ _ ((c .before .before .before .before .before .before .if2 .left)), lt-ltb _ _ over)
+returns-3 c = let f-length : (c .before .before .before .trimmed-length .result) ≡ length (given (c .before .before .before .before .before .before .before .before .args .f) (c .before .before .before .before .before .before .before .before .args .k)) - 1 = kept-length (c .before .before .before .before .before .before .before .before .args .f) (c .before .before .before .before .before .before .before .before .args .k) (search needs) (c .before .before .before .trimmed-length .ensures) (c .before .before .before .before .before .kept .ensures) in
+    let g-length : (c .before .before .trimmed-length2 .result) ≡ length (given (c .before .before .before .before .before .before .before .before .args .g) (c .before .before .before .before .before .before .before .before .args .l)) - 1 = kept-length (c .before .before .before .before .before .before .before .before .args .g) (c .before .before .before .before .before .before .before .before .args .l) (search needs) (c .before .before .trimmed-length2 .ensures) (c .before .before .before .before .kept2 .ensures) in
+    let over : 16 < (length (given (c .before .before .before .before .before .before .before .before .args .f) (c .before .before .before .before .before .before .before .before .args .k)) - 1) + (length (given (c .before .before .before .before .before .before .before .before .args .g) (c .before .before .before .before .before .before .before .before .args .l)) - 1) = omega arith in
+    rw ((c .refusal3 .ensures), le-ltb _ _ (c .before .before .before .before .before .before .before .if1 .left), le-ltb _ _ (c .before .before .before .before .before .before .if2 .left), lt-ltb _ _ over)
 
--- src/lib.rt:102:14
 product-words-requires : tie.Need-product-words-requires
-product-words-requires c κs = (omega (arith, kept-length ((c .before .before .before .before .before .before .before .args .f)) ((c .before .before .before .before .before .before .before .args .k)) (search needs) ((c .before .before .trimmed-length .ensures)) ((c .before .before .before .before .kept .ensures)), length-given ((c .before .before .before .before .before .before .before .args .f)) ((c .before .before .before .before .before .before .before .args .k)) (search needs)), (omega (arith, kept-length ((c .before .before .before .before .before .before .before .args .g)) ((c .before .before .before .before .before .before .before .args .l)) (search needs) ((c .before .trimmed-length2 .ensures)) ((c .before .before .before .kept2 .ensures)), length-given ((c .before .before .before .before .before .before .before .args .g)) ((c .before .before .before .before .before .before .before .args .l)) (search needs)), (past-trimmed _ ((c .before .before .trimmed-length .ensures)), past-trimmed _ ((c .before .trimmed-length2 .ensures)))))
+product-words-requires c κs = (omega (arith, kept-length (c .before .before .before .before .before .before .before .args .f) (c .before .before .before .before .before .before .before .args .k) (search needs) (c .before .before .trimmed-length .ensures) (c .before .before .before .before .kept .ensures), length-given (c .before .before .before .before .before .before .before .args .f) (c .before .before .before .before .before .before .before .args .k) (search needs)), (omega (arith, kept-length (c .before .before .before .before .before .before .before .args .g) (c .before .before .before .before .before .before .before .args .l) (search needs) (c .before .trimmed-length2 .ensures) (c .before .before .before .kept2 .ensures), length-given (c .before .before .before .before .before .before .before .args .g) (c .before .before .before .before .before .before .before .args .l) (search needs)), (past-trimmed _ (c .before .before .trimmed-length .ensures), past-trimmed _ (c .before .trimmed-length2 .ensures))))
 
--- src/lib.rt:102:5
 accepted-requires : tie.Need-accepted-requires
 accepted-requires c κs = search needs
 
--- src/lib.rt:86:1
 returns-4 : tie.Need-returns-4
-returns-4 c = let f-length : (c .before .before .before .before .trimmed-length .result) ≡ length (given ((c .before .before .before .before .before .before .before .before .before .args .f)) ((c .before .before .before .before .before .before .before .before .before .args .k))) - 1 = kept-length ((c .before .before .before .before .before .before .before .before .before .args .f)) ((c .before .before .before .before .before .before .before .before .before .args .k)) (search needs) ((c .before .before .before .before .trimmed-length .ensures)) ((c .before .before .before .before .before .before .kept .ensures)) in
-    let g-length : (c .before .before .before .trimmed-length2 .result) ≡ length (given ((c .before .before .before .before .before .before .before .before .before .args .g)) ((c .before .before .before .before .before .before .before .before .before .args .l))) - 1 = kept-length ((c .before .before .before .before .before .before .before .before .before .args .g)) ((c .before .before .before .before .before .before .before .before .before .args .l)) (search needs) ((c .before .before .before .trimmed-length2 .ensures)) ((c .before .before .before .before .before .kept2 .ensures)) in
-    let short : (length (given ((c .before .before .before .before .before .before .before .before .before .args .f)) ((c .before .before .before .before .before .before .before .before .before .args .k))) - 1) + (length (given ((c .before .before .before .before .before .before .before .before .before .args .g)) ((c .before .before .before .before .before .before .before .before .before .args .l))) - 1) ≤ 16 = omega arith in
-    rw ((c .accepted .ensures), (c .before .product-words .ensures), (c .before .before .before .before .before .before .kept .ensures), (c .before .before .before .before .before .kept2 .ensures), le-ltb _ _ ((c .before .before .before .before .before .before .before .before .if1 .left)), le-ltb _ _ ((c .before .before .before .before .before .before .before .if2 .left)), le-ltb _ _ short, product-trims 64 ((c .before .before .before .before .before .before .before .before .before .args .f)) ((c .before .before .before .before .before .before .before .before .before .args .k)) (search needs) ((c .before .before .before .before .before .before .before .before .before .args .g)) ((c .before .before .before .before .before .before .before .before .before .args .l)) (search needs) short)
+returns-4 c = let f-length : (c .before .before .before .before .trimmed-length .result) ≡ length (given (c .before .before .before .before .before .before .before .before .before .args .f) (c .before .before .before .before .before .before .before .before .before .args .k)) - 1 = kept-length (c .before .before .before .before .before .before .before .before .before .args .f) (c .before .before .before .before .before .before .before .before .before .args .k) (search needs) (c .before .before .before .before .trimmed-length .ensures) (c .before .before .before .before .before .before .kept .ensures) in
+    let g-length : (c .before .before .before .trimmed-length2 .result) ≡ length (given (c .before .before .before .before .before .before .before .before .before .args .g) (c .before .before .before .before .before .before .before .before .before .args .l)) - 1 = kept-length (c .before .before .before .before .before .before .before .before .before .args .g) (c .before .before .before .before .before .before .before .before .before .args .l) (search needs) (c .before .before .before .trimmed-length2 .ensures) (c .before .before .before .before .before .kept2 .ensures) in
+    let short : (length (given (c .before .before .before .before .before .before .before .before .before .args .f) (c .before .before .before .before .before .before .before .before .before .args .k)) - 1) + (length (given (c .before .before .before .before .before .before .before .before .before .args .g) (c .before .before .before .before .before .before .before .before .before .args .l)) - 1) ≤ 16 = omega arith in
+    rw ((c .accepted .ensures), (c .before .product-words .ensures), (c .before .before .before .before .before .before .kept .ensures), (c .before .before .before .before .before .kept2 .ensures), le-ltb _ _ (c .before .before .before .before .before .before .before .before .if1 .left), le-ltb _ _ (c .before .before .before .before .before .before .before .if2 .left), le-ltb _ _ short, product-trims 64 (c .before .before .before .before .before .before .before .before .before .args .f) (c .before .before .before .before .before .before .before .before .before .args .k) (search needs) (c .before .before .before .before .before .before .before .before .before .args .g) (c .before .before .before .before .before .before .before .before .before .args .l) (search needs) short)
 
 pub product-spec : {M : Type 1} → statement M
 product-spec =

@@ -1,52 +1,35 @@
-use mathlib.Core.Path.{_≡_, _∙_, sym, ap, refl}
-use native.Mathlib.Omega.{arith}
 use borrow.Author.Tests.{lt-ltb, le-ltb}
-use Rattle.chain.proofs.Calls.{sum-trims}
 use borrow.Author.Needs.{needs}
+use Rattle.chain.proofs.Calls.{sum-trims}
 use Rattle.chain.proofs.sum.Statement.{statement}
 use Rattle.chain.proofs.sum.Tie as tie
-use Rattle.chain.proofs.sum.Reads as reads
-use Rattle.chain.proofs.sum.Lts as lts
-use Rattle.chain.proofs.accepted.Reads as accepted-reads
-use Rattle.chain.proofs.arrays.kept.Reads as kept-reads
-use Rattle.chain.proofs.arrays.sum_words.Reads as sum-words-reads
-use Rattle.chain.proofs.refusal.Reads as refusal-reads
 
--- src/lib.rt:65:9
 refusal-requires : tie.Need-refusal-requires
 refusal-requires c κs = search needs
 
--- src/lib.rt:65:9
 returns : tie.Need-returns
-returns c = rw ((c .refusal .ensures), lt-ltb _ _ ((c .before .if1 .taken)))
+returns c = rw ((c .refusal .ensures), lt-ltb _ _ (c .before .if1 .taken))
 
--- src/lib.rt:68:9
 refusal-requires-2 : tie.Need-refusal-requires-2
 refusal-requires-2 c κs = search needs
 
--- src/lib.rt:68:9
 returns-2 : tie.Need-returns-2
-returns-2 c = rw ((c .refusal2 .ensures), le-ltb _ _ ((c .before .before .if1 .left)), lt-ltb _ _ ((c .before .if2 .taken)))
+returns-2 c = rw ((c .refusal2 .ensures), le-ltb _ _ (c .before .before .if1 .left), lt-ltb _ _ (c .before .if2 .taken))
 
--- src/lib.rt:70:32
 kept-requires : tie.Need-kept-requires
 kept-requires c κs = search needs
 
--- src/lib.rt:70:52
 kept-requires-2 : tie.Need-kept-requires-2
 kept-requires-2 c κs = search needs
 
--- src/lib.rt:70:14
 sum-words-requires : tie.Need-sum-words-requires
 sum-words-requires c κs = search needs
 
--- src/lib.rt:70:5
 accepted-requires : tie.Need-accepted-requires
 accepted-requires c κs = search needs
 
--- src/lib.rt:61:1
 returns-3 : tie.Need-returns-3
-returns-3 c = rw ((c .accepted .ensures), (c .before .sum-words .ensures), (c .before .before .before .kept .ensures), (c .before .before .kept2 .ensures), le-ltb _ _ ((c .before .before .before .before .before .if1 .left)), le-ltb _ _ ((c .before .before .before .before .if2 .left)), sum-trims 64 ((c .before .before .before .before .before .before .args .f)) ((c .before .before .before .before .before .before .args .k)) (search needs) ((c .before .before .before .before .before .before .args .g)) ((c .before .before .before .before .before .before .args .l)) (search needs))
+returns-3 c = rw ((c .accepted .ensures), (c .before .sum-words .ensures), (c .before .before .before .kept .ensures), (c .before .before .kept2 .ensures), le-ltb _ _ (c .before .before .before .before .before .if1 .left), le-ltb _ _ (c .before .before .before .before .if2 .left), sum-trims 64 (c .before .before .before .before .before .before .args .f) (c .before .before .before .before .before .before .args .k) (search needs) (c .before .before .before .before .before .before .args .g) (c .before .before .before .before .before .before .args .l) (search needs))
 
 pub sum-spec : {M : Type 1} → statement M
 sum-spec =

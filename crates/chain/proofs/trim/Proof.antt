@@ -1,35 +1,23 @@
-use mathlib.Core.Path.{_≡_, _∙_, sym, ap, refl}
-use native.Mathlib.Omega.{arith}
 use borrow.Author.Tests.{lt-ltb, le-ltb}
-use Rattle.chain.proofs.Calls.{kept-trimmed}
 use borrow.Author.Needs.{needs}
+use Rattle.chain.proofs.Calls.{kept-trimmed}
 use Rattle.chain.proofs.trim.Statement.{statement}
 use Rattle.chain.proofs.trim.Tie as tie
-use Rattle.chain.proofs.trim.Reads as reads
-use Rattle.chain.proofs.trim.Lts as lts
-use Rattle.chain.proofs.accepted.Reads as accepted-reads
-use Rattle.chain.proofs.arrays.kept.Reads as kept-reads
-use Rattle.chain.proofs.refusal.Reads as refusal-reads
 
--- src/lib.rt:56:9
 refusal-requires : tie.Need-refusal-requires
 refusal-requires c κs = search needs
 
--- src/lib.rt:56:9
 returns : tie.Need-returns
-returns c = rw ((c .refusal .ensures), lt-ltb _ _ ((c .before .if1 .taken)))
+returns c = rw ((c .refusal .ensures), lt-ltb _ _ (c .before .if1 .taken))
 
--- src/lib.rt:58:14
 kept-requires : tie.Need-kept-requires
 kept-requires c κs = search needs
 
--- src/lib.rt:58:5
 accepted-requires : tie.Need-accepted-requires
 accepted-requires c κs = search needs
 
--- src/lib.rt:52:1
 returns-2 : tie.Need-returns-2
-returns-2 c = rw ((c .accepted .ensures), (c .before .kept .ensures), le-ltb _ _ ((c .before .before .if1 .left)), kept-trimmed ((c .before .before .before .args .f)) ((c .before .before .before .args .k)) (search needs))
+returns-2 c = rw ((c .accepted .ensures), (c .before .kept .ensures), le-ltb _ _ (c .before .before .if1 .left), kept-trimmed (c .before .before .before .args .f) (c .before .before .before .args .k) (search needs))
 
 pub trim-spec : {M : Type 1} → statement M
 trim-spec = tie.close (tie.spec refusal-requires returns kept-requires accepted-requires returns-2)

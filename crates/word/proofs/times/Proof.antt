@@ -1,40 +1,30 @@
-use Rattle.word.proofs.HalfWords.{halves-fit, from-halves}
-use native.Mathlib.Omega.{arith}
 use mathlib.Core.Path.{_∙_}
+use native.Mathlib.Omega.{arith}
 use borrow.Author.Needs.{needs}
+use Rattle.word.proofs.HalfWords.{halves-fit, from-halves}
 use Rattle.word.proofs.times.Statement.{statement}
 use Rattle.word.proofs.times.Tie as tie
-use Rattle.word.proofs.times.Reads as reads
-use Rattle.word.proofs.times.Lts as lts
-use Rattle.std.proofs.num.wrapping_add_u64.Reads as wrapping-add-u64-reads
 
--- src/lib.rt:18:18
 mul-cross : tie.Need-mul-cross
 mul-cross c = record { fits = halves-fit 4294967296 (omega arith) (omega arith) (omega arith) }
 
--- src/lib.rt:18:42
 mul-cross-2 : tie.Need-mul-cross-2
 mul-cross-2 c = record { fits = halves-fit 4294967296 (omega arith) (omega arith) (omega arith) }
 
--- src/lib.rt:18:18
 add-cross : tie.Need-add-cross
 add-cross c = search needs
 
--- src/lib.rt:19:32
 mul-wrapping-add-u64 : tie.Need-mul-wrapping-add-u64
 mul-wrapping-add-u64 c = search needs
 
--- src/lib.rt:19:46
 mul-wrapping-add-u64-2 : tie.Need-mul-wrapping-add-u64-2
 mul-wrapping-add-u64-2 c = record { fits = halves-fit 4294967296 (omega arith) (omega arith) (omega arith) }
 
--- src/lib.rt:19:5
 wrapping-add-u64-requires : tie.Need-wrapping-add-u64-requires
 wrapping-add-u64-requires c κs = search needs
 
--- src/lib.rt:11:1
 returns : tie.Need-returns
-returns c = (c .wrapping-add-u64 .ensures) ∙ from-halves 4294967296 ((c .before .args .a)) ((c .before .args .b))
+returns c = (c .wrapping-add-u64 .ensures) ∙ from-halves 4294967296 (c .before .args .a) (c .before .args .b)
 
 pub times-spec : {M : Type 1} → statement M
 times-spec =

@@ -1,11 +1,10 @@
-use mathlib.Core.Path.{ap₂}
-use Rattle.chain.specs.Chain.{words, row, rest}
-use Rattle.chain.specs.SumChain.{sum, sumShift, product}
-use mathlib.Core.List.{_∷_}
-use mathlib.Core.Path.{_≡_, _∙_, sym, ap, refl}
+use mathlib.Core.Path.{_≡_, _∙_, sym, ap, ap₂, refl}
 use Prim.Native.Nat.{_+_, _-_, _*_, _%_, _^_, _≤_}
 use native.Mathlib.Omega.{arith}
 use Rattle.chain.proofs.ProductRule.{past-rest, past-shift, constant-left, constant-right, rule}
+use Rattle.chain.specs.Chain.{words, row, rest}
+use Rattle.chain.specs.SumChain.{sum, sumShift, product}
+use mathlib.Core.List.{_∷_}
 use borrow.Author.Needs.{needs}
 use Prim.Native.Nat.{ℕ, _<_}
 use borrow.Fn.Kinds.{In}
@@ -266,45 +265,7 @@ product-words-product-words-requires : (t : ℕ) → product-words-lts.Need-prod
 ) (product-words-at t) product-words.Post
 product-words-product-words-requires t c κs = (omega arith, (omega arith, (omega arith, ((c .before .before .before .before .pre .1 .1 .1 .0), rw ((c .rest-words .ensures)) (past-rest 17 ((c .before .before .before .before .args .t3)) ((c .before .before .before .before .args .l)) (omega arith) ((c .before .before .before .before .pre .1 .1 .1 .1)))))))
 
--- src/arrays.rt:137:31
-product-words-rest-words-requires-2 : (t : ℕ) → product-words-lts.Need-rest-words-requires-2 (
-  scaled-words-reads.Asked,
-  scaled-words-reads.Learnt,
-  times-reads.Asked,
-  times-reads.Learnt,
-  rest-words-reads.Asked,
-  rest-words-reads.Learnt,
-  product-words-below t,
-  product-words.Post,
-  shift-words-reads.Asked,
-  shift-words-reads.Learnt,
-  sum-words-reads.Asked,
-  sum-words-reads.Learnt,
-  preceded-reads.Asked,
-  preceded-reads.Learnt,
-) (product-words-at t) product-words.Post
-product-words-rest-words-requires-2 t c κs = search needs
-
--- src/arrays.rt:137:46
-product-words-sub-product-words-2 : (t : ℕ) → product-words-lts.Need-sub-product-words-2 (
-  scaled-words-reads.Asked,
-  scaled-words-reads.Learnt,
-  times-reads.Asked,
-  times-reads.Learnt,
-  rest-words-reads.Asked,
-  rest-words-reads.Learnt,
-  product-words-below t,
-  product-words.Post,
-  shift-words-reads.Asked,
-  shift-words-reads.Learnt,
-  sum-words-reads.Asked,
-  sum-words-reads.Learnt,
-  preceded-reads.Asked,
-  preceded-reads.Learnt,
-) (product-words-at t) product-words.Post
-product-words-sub-product-words-2 t c = search needs
-
--- src/arrays.rt:137:53
+-- src/arrays.rt:137:9
 product-words-shift-words-requires : (t : ℕ) → product-words-lts.Need-shift-words-requires (
   scaled-words-reads.Asked,
   scaled-words-reads.Learnt,
@@ -323,7 +284,45 @@ product-words-shift-words-requires : (t : ℕ) → product-words-lts.Need-shift-
 ) (product-words-at t) product-words.Post
 product-words-shift-words-requires t c κs = search needs
 
--- src/arrays.rt:137:9
+-- src/arrays.rt:138:31
+product-words-rest-words-requires-2 : (t : ℕ) → product-words-lts.Need-rest-words-requires-2 (
+  scaled-words-reads.Asked,
+  scaled-words-reads.Learnt,
+  times-reads.Asked,
+  times-reads.Learnt,
+  rest-words-reads.Asked,
+  rest-words-reads.Learnt,
+  product-words-below t,
+  product-words.Post,
+  shift-words-reads.Asked,
+  shift-words-reads.Learnt,
+  sum-words-reads.Asked,
+  sum-words-reads.Learnt,
+  preceded-reads.Asked,
+  preceded-reads.Learnt,
+) (product-words-at t) product-words.Post
+product-words-rest-words-requires-2 t c κs = search needs
+
+-- src/arrays.rt:138:46
+product-words-sub-product-words-2 : (t : ℕ) → product-words-lts.Need-sub-product-words-2 (
+  scaled-words-reads.Asked,
+  scaled-words-reads.Learnt,
+  times-reads.Asked,
+  times-reads.Learnt,
+  rest-words-reads.Asked,
+  rest-words-reads.Learnt,
+  product-words-below t,
+  product-words.Post,
+  shift-words-reads.Asked,
+  shift-words-reads.Learnt,
+  sum-words-reads.Asked,
+  sum-words-reads.Learnt,
+  preceded-reads.Asked,
+  preceded-reads.Learnt,
+) (product-words-at t) product-words.Post
+product-words-sub-product-words-2 t c = search needs
+
+-- src/arrays.rt:138:9
 product-words-product-words-requires-2 : (t : ℕ) → product-words-lts.Need-product-words-requires-2 (
   scaled-words-reads.Asked,
   scaled-words-reads.Learnt,
@@ -340,9 +339,9 @@ product-words-product-words-requires-2 : (t : ℕ) → product-words-lts.Need-pr
   preceded-reads.Asked,
   preceded-reads.Learnt,
 ) (product-words-at t) product-words.Post
-product-words-product-words-requires-2 t c κs = (omega arith, (omega arith, (omega arith, (rw ((c .before .rest-words2 .ensures)) (past-rest 17 ((c .before .before .before .before .before .before .before .args .t1)) ((c .before .before .before .before .before .before .before .args .k)) (omega arith) ((c .before .before .before .before .before .before .before .pre .1 .1 .1 .0))), rw ((c .shift-words .ensures)) (past-shift 64 ((c .before .before .before .before .before .before .before .args .t3)) ((c .before .before .before .before .before .before .before .args .l)) ((c .before .before .before .before .before .before .before .pre .1 .1 .1 .1)))))))
+product-words-product-words-requires-2 t c κs = (omega arith, (omega arith, (omega arith, (rw ((c .rest-words2 .ensures)) (past-rest 17 ((c .before .before .before .before .before .before .before .args .t1)) ((c .before .before .before .before .before .before .before .args .k)) (omega arith) ((c .before .before .before .before .before .before .before .pre .1 .1 .1 .0))), rw ((c .before .shift-words .ensures)) (past-shift 64 ((c .before .before .before .before .before .before .before .args .t3)) ((c .before .before .before .before .before .before .before .args .l)) ((c .before .before .before .before .before .before .before .pre .1 .1 .1 .1)))))))
 
--- src/arrays.rt:138:21
+-- src/arrays.rt:139:21
 product-words-sum-words-requires : (t : ℕ) → product-words-lts.Need-sum-words-requires (
   scaled-words-reads.Asked,
   scaled-words-reads.Learnt,
@@ -361,7 +360,7 @@ product-words-sum-words-requires : (t : ℕ) → product-words-lts.Need-sum-word
 ) (product-words-at t) product-words.Post
 product-words-sum-words-requires t c κs = search needs
 
--- src/arrays.rt:138:5
+-- src/arrays.rt:139:5
 product-words-preceded-requires : (t : ℕ) → product-words-lts.Need-preceded-requires (
   scaled-words-reads.Asked,
   scaled-words-reads.Learnt,
@@ -397,7 +396,7 @@ product-words-returns-3 : (t : ℕ) → product-words-lts.Need-returns-3 (
   preceded-reads.Asked,
   preceded-reads.Learnt,
 ) (product-words-at t) product-words.Post
-product-words-returns-3 t c = (c .preceded .ensures) ∙ ap (λ l. row 17 ((c .before .before .before .before .before .before .before .times .result) ∷ l)) ((c .before .sum-words .ensures)) ∙ rule 64 16 ((c .before .before .before .before .before .before .before .before .before .before .args .t1)) ((c .before .before .before .before .before .before .before .before .before .before .args .t3)) ((c .before .before .before .before .before .before .before .times .ensures)) ((c .before .before .before .before .before .product-words .ensures) ∙ ap (λ l. row 17 (words 64 (product ((c .before .before .before .before .before .before .before .before .before .before .args .t1)) l))) ((c .before .before .before .before .before .before .rest-words .ensures))) ((c .before .before .product-words2 .ensures) ∙ ap₂ (λ f g. row 17 (words 64 (product f g))) ((c .before .before .before .before .rest-words2 .ensures)) ((c .before .before .before .shift-words .ensures)))
+product-words-returns-3 t c = (c .preceded .ensures) ∙ ap (λ l. row 17 (((c .before .before .before .before .before .before .before .times .result)) ∷ l)) ((c .before .sum-words .ensures)) ∙ rule 64 16 ((c .before .before .before .before .before .before .before .before .before .before .args .t1)) ((c .before .before .before .before .before .before .before .before .before .before .args .t3)) ((c .before .before .before .before .before .before .before .times .ensures)) ((c .before .before .before .before .before .product-words .ensures) ∙ ap (λ l. row 17 (words 64 (product ((c .before .before .before .before .before .before .before .before .before .before .args .t1)) l))) ((c .before .before .before .before .before .before .rest-words .ensures))) ((c .before .before .product-words2 .ensures) ∙ ap₂ (λ f g. row 17 (words 64 (product f g))) ((c .before .before .before .rest-words2 .ensures)) ((c .before .before .before .before .shift-words .ensures)))
 
 pub +product-words-spec : {M : Type 1} → statement M
 +product-words-spec = close μ-product-words λ t. product-words-lts.spec (
@@ -430,9 +429,9 @@ pub +product-words-spec : {M : Type 1} → statement M
     (product-words-rest-words-requires t)
     (product-words-sub-product-words t)
     (product-words-product-words-requires t)
+    (product-words-shift-words-requires t)
     (product-words-rest-words-requires-2 t)
     (product-words-sub-product-words-2 t)
-    (product-words-shift-words-requires t)
     (product-words-product-words-requires-2 t)
     (product-words-sum-words-requires t)
     (product-words-preceded-requires t)

@@ -1,19 +1,12 @@
-use Prim.Native.Nat.{ℕ, _<_}
-use mathlib.Core.Path.{_≡_, _∙_, sym, ap}
-use Prim.Native.Nat.{_+_, _-_, _≤_}
+use mathlib.Core.Path.{_≡_, _∙_, ap, refl}
+use Prim.Native.Nat.{ℕ, _<_, _+_, _-_, _≤_}
 use native.Mathlib.Omega.{arith}
 use lib.ListN.{take}
-use Rattle.chain.specs.Chain.{words, row}
-use Rattle.chain.specs.SumChain.{sum, difference, scaled}
-use Rattle.chain.proofs.Rows.{row-store, row-filled, entry-sum, entry-difference, entry-scaled}
-use native.Mathlib.Numerals.{add-one}
-use mathlib.Core.Path.{refl}
 use borrow.Author.Needs.{needs}
+use Rattle.chain.specs.Chain.{row}
+use Rattle.chain.proofs.Rows.{row-store}
 use Rattle.chain.proofs.arrays.kept.Statement.{statement}
 use Rattle.chain.proofs.arrays.kept.Tie as tie
-use Rattle.chain.proofs.arrays.kept.Reads as reads
-use Rattle.chain.proofs.arrays.kept.Lts as lts
-use Rattle.chain.proofs.arrays.zeros.Reads as zeros-reads
 
 ends : (i last : ℕ) → i ≤ last + 1 → last < i → i ≡ last + 1
 ends i last h g = omega arith
@@ -24,45 +17,35 @@ Inv-loop last f r₀ i₀ r i = (i ≤ last + 1) × (r ≡ row 17 (take i f))
 abbrev μ-loop : tie.MeasureT-loop
 μ-loop last f r₀ i₀ r i = last + 1 - i
 
--- src/arrays.rt:22:17
 zeros-requires : tie.Need-zeros-requires Inv-loop μ-loop
 zeros-requires c κs = search needs
 
--- src/arrays.rt:24:5
 loop-holds : tie.Need-loop-holds Inv-loop μ-loop
 loop-holds c = (omega arith, (c .zeros .ensures))
 
--- src/arrays.rt:25:16
 mul-r : tie.Need-mul-r Inv-loop μ-loop
 mul-r c = search needs
 
--- src/arrays.rt:25:16
 array-read-r : tie.Need-array-read-r Inv-loop μ-loop
 array-read-r c = search needs
 
--- src/arrays.rt:25:9
 mul-r-2 : tie.Need-mul-r-2 Inv-loop μ-loop
 mul-r-2 c = search needs
 
--- src/arrays.rt:25:9
 array-write-r : tie.Need-array-write-r Inv-loop μ-loop
 array-write-r c = search needs
 
--- src/arrays.rt:26:9
 add-i : tie.Need-add-i Inv-loop μ-loop
 add-i c = search needs
 
--- src/arrays.rt:24:5
 loop-less : tie.Need-loop-less Inv-loop μ-loop
 loop-less c = search needs
 
--- src/arrays.rt:24:5
 loop-again : tie.Need-loop-again Inv-loop μ-loop
-loop-again c = (omega arith, row-store 17 _ _ (omega arith) ((c .before .loop .inv .1)) refl)
+loop-again c = (omega arith, row-store 17 _ _ (omega arith) (c .before .loop .inv .1) refl)
 
--- src/arrays.rt:18:1
 returns : tie.Need-returns Inv-loop μ-loop
-returns c = (c .before .loop .inv .1) ∙ ap (λ k. row 17 (take k ((c .before .before .before .args .t1)))) (ends ((c .before .loop .i)) ((c .before .before .before .args .last)) ((c .before .loop .inv .0)) ((c .loop-test .left)))
+returns c = (c .before .loop .inv .1) ∙ ap (λ k. row 17 (take k (c .before .before .before .args .t1))) (ends (c .before .loop .i) (c .before .before .before .args .last) (c .before .loop .inv .0) (c .loop-test .left))
 
 pub kept-spec : {M : Type 1} → statement M
 kept-spec =

@@ -1,14 +1,11 @@
-use Rattle.chain.proofs.Trimming.{trimmed-constant, trimmed-last, zero-down}
-use mathlib.Core.Path.{_≡_, _∙_, sym, ap}
-use Prim.Native.Nat.{ℕ, _<_, _≤_, _-_}
+use mathlib.Core.Path.{_≡_}
+use Prim.Native.Nat.{ℕ, _<_, _≤_}
 use native.Mathlib.Omega.{arith}
-use lib.ListN.{getD, length, List·getD-eq-default}
-use Rattle.chain.proofs.Trimming.{trimmed-constant, trimmed-last}
+use lib.ListN.{getD, List·getD-eq-default}
 use borrow.Author.Needs.{needs}
+use Rattle.chain.proofs.Trimming.{trimmed-constant, trimmed-last, zero-down}
 use Rattle.chain.proofs.arrays.trimmed_length.Statement.{statement}
 use Rattle.chain.proofs.arrays.trimmed_length.Tie as tie
-use Rattle.chain.proofs.arrays.trimmed_length.Reads as reads
-use Rattle.chain.proofs.arrays.trimmed_length.Lts as lts
 
 past : {n : ℕ} (j : ℕ) → 16 < j → n ≡ 17 → n ≤ j
 past j h e = omega arith
@@ -19,37 +16,29 @@ Inv-loop f last₀ last = (last ≤ 16) × ((j : ℕ) → last < j → getD f j 
 abbrev μ-loop : tie.MeasureT-loop
 μ-loop f last₀ last = last
 
--- src/arrays.rt:36:5
 loop-holds : tie.Need-loop-holds Inv-loop μ-loop
-loop-holds c = (omega arith, λ j h. List·getD-eq-default ((c .args .t1)) 0 (past j h (search needs)))
+loop-holds c = (omega arith, λ j h. List·getD-eq-default (c .args .t1) 0 (past j h (search needs)))
 
--- src/arrays.rt:37:12
 mul-if1 : tie.Need-mul-if1 Inv-loop μ-loop
 mul-if1 c = search needs
 
--- src/arrays.rt:37:12
 array-read-if1 : tie.Need-array-read-if1 Inv-loop μ-loop
 array-read-if1 c = search needs
 
--- src/arrays.rt:38:13
 returns : tie.Need-returns Inv-loop μ-loop
-returns c = omega (arith, trimmed-last ((c .before .before .before .args .t1)) ((c .before .before .loop .last)) (omega arith) ((c .before .before .loop .inv .1)) ((c .if1 .taken)))
+returns c = omega (arith, trimmed-last (c .before .before .before .args .t1) (c .before .before .loop .last) (omega arith) (c .before .before .loop .inv .1) (c .if1 .taken))
 
--- src/arrays.rt:40:9
 sub-last : tie.Need-sub-last Inv-loop μ-loop
 sub-last c = search needs
 
--- src/arrays.rt:36:5
 loop-less : tie.Need-loop-less Inv-loop μ-loop
 loop-less c = search needs
 
--- src/arrays.rt:36:5
 loop-again : tie.Need-loop-again Inv-loop μ-loop
-loop-again c = (omega arith, zero-down ((c .before .before .before .args .t1)) ((c .before .before .loop .last)) ((c .if1 .left)) ((c .before .before .loop .inv .1)))
+loop-again c = (omega arith, zero-down (c .before .before .before .args .t1) (c .before .before .loop .last) (c .if1 .left) (c .before .before .loop .inv .1))
 
--- src/arrays.rt:32:1
 returns-2 : tie.Need-returns-2 Inv-loop μ-loop
-returns-2 c = omega (arith, trimmed-constant ((c .before .before .args .t1)) (λ j h. (c .before .loop .inv .1) j (omega arith)))
+returns-2 c = omega (arith, trimmed-constant (c .before .before .args .t1) (λ j h. (c .before .loop .inv .1) j (omega arith)))
 
 pub trimmed-length-spec : {M : Type 1} → statement M
 trimmed-length-spec =

@@ -1,21 +1,13 @@
-use lib.ListN.{getD}
-use Prim.Native.Nat.{_*_}
-use Rattle.chain.proofs.CoefficientLaws.{element-turn, element-done}
-use mathlib.Core.Path.{_≡_, _∙_, sym, ap, refl}
-use Prim.Native.Nat.{_+_, _-_, _%_, _^_, _<_, _≤_}
-use native.Mathlib.Nat.{zero-add, mod-eq-of-lt}
+use mathlib.Core.Path.{_≡_, _∙_, sym, ap}
+use Prim.Native.Nat.{_*_, _+_, _-_, _%_, _^_, _<_, _≤_}
+use native.Mathlib.Nat.{zero-add}
 use native.Mathlib.Omega.{arith}
-use lib.ListN.{length, drop}
-use Rattle.chain.specs.Coefficients.{elementFrom, onto}
-use Rattle.chain.proofs.CoefficientLaws.{element-turn}
+use lib.ListN.{getD, length, drop}
 use borrow.Author.Needs.{needs}
+use Rattle.chain.proofs.CoefficientLaws.{element-turn, element-done}
+use Rattle.chain.specs.Coefficients.{elementFrom, onto}
 use Rattle.chain.proofs.coefficients.element.Statement.{statement}
 use Rattle.chain.proofs.coefficients.element.Tie as tie
-use Rattle.chain.proofs.coefficients.element.Reads as reads
-use Rattle.chain.proofs.coefficients.element.Lts as lts
-use Rattle.chain.proofs.coefficients.onto.Reads as onto-reads
-use Rattle.std.proofs.num.wrapping_add_u64.Reads as wrapping-add-u64-reads
-use Rattle.word.proofs.times.Reads as times-reads
 
 abbrev Inv-loop : tie.InvT-loop
 Inv-loop a m total₀ j₀ total j = (j ≤ length a) × (total < 2 ^ 64) × ((total + elementFrom j (drop j a) m) % 2 ^ 64 ≡ elementFrom 0 a m % 2 ^ 64)
@@ -23,45 +15,35 @@ Inv-loop a m total₀ j₀ total j = (j ≤ length a) × (total < 2 ^ 64) × ((t
 abbrev μ-loop : tie.MeasureT-loop
 μ-loop a m total₀ j₀ total j = length a - j
 
--- src/coefficients.rt:52:5
 loop-holds : tie.Need-loop-holds Inv-loop μ-loop
-loop-holds c = (omega arith, omega arith, ap (λ z. z % 2 ^ 64) (zero-add (elementFrom 0 ((c .before .args .a .now)) ((c .before .args .m)))))
+loop-holds c = (omega arith, omega arith, ap (λ z. z % 2 ^ 64) (zero-add (elementFrom 0 (c .before .args .a .now) (c .before .args .m))))
 
--- src/coefficients.rt:53:63
 mul-times : tie.Need-mul-times Inv-loop μ-loop
 mul-times c = search needs
 
--- src/coefficients.rt:53:63
 shared-slice-read-times : tie.Need-shared-slice-read-times Inv-loop μ-loop
 shared-slice-read-times c = search needs
 
--- src/coefficients.rt:53:69
 onto-requires : tie.Need-onto-requires Inv-loop μ-loop
 onto-requires c κs = search needs
 
--- src/coefficients.rt:53:51
 times-requires : tie.Need-times-requires Inv-loop μ-loop
 times-requires c κs = search needs
 
--- src/coefficients.rt:53:9
 wrapping-add-u64-requires : tie.Need-wrapping-add-u64-requires Inv-loop μ-loop
 wrapping-add-u64-requires c κs = search needs
 
--- src/coefficients.rt:54:9
 add-j : tie.Need-add-j Inv-loop μ-loop
 add-j c = search needs
 
--- src/coefficients.rt:52:5
 loop-less : tie.Need-loop-less Inv-loop μ-loop
 loop-less c = search needs
 
--- src/coefficients.rt:52:5
 loop-again : tie.Need-loop-again Inv-loop μ-loop
-loop-again c = (omega arith, (c .wrapping-add-u64 .ok), element-turn (2 ^ 64) ((c .before .before .before .before .before .before .before .args .a .now)) ((c .before .before .before .before .before .loop .j)) ((c .before .before .before .before .before .before .before .args .m)) ((c .before .before .before .before .before .loop .total)) (omega arith) ((c .before .times .ensures) ∙ ap (λ z. (getD ((c .before .before .before .before .before .before .before .args .a .now)) ((c .before .before .before .before .before .loop .j)) 0 * z) % 2 ^ 64) ((c .before .before .onto .ensures))) ((c .wrapping-add-u64 .ensures)) ∙ (c .before .before .before .before .before .loop .inv .2))
+loop-again c = (omega arith, (c .wrapping-add-u64 .ok), element-turn (2 ^ 64) (c .before .before .before .before .before .before .before .args .a .now) (c .before .before .before .before .before .loop .j) (c .before .before .before .before .before .before .before .args .m) (c .before .before .before .before .before .loop .total) (omega arith) ((c .before .times .ensures) ∙ ap (λ z. (getD (c .before .before .before .before .before .before .before .args .a .now) (c .before .before .before .before .before .loop .j) 0 * z) % 2 ^ 64) (c .before .before .onto .ensures)) (c .wrapping-add-u64 .ensures) ∙ (c .before .before .before .before .before .loop .inv .2))
 
--- src/coefficients.rt:45:1
 returns : tie.Need-returns Inv-loop μ-loop
-returns c = sym (element-done (2 ^ 64) ((c .before .before .before .args .a .now)) ((c .before .loop .j)) ((c .before .before .before .args .m)) ((c .before .loop .total)) ((c .before .loop .inv .1)) (omega arith)) ∙ (c .before .loop .inv .2)
+returns c = sym (element-done (2 ^ 64) (c .before .before .before .args .a .now) (c .before .loop .j) (c .before .before .before .args .m) (c .before .loop .total) (c .before .loop .inv .1) (omega arith)) ∙ (c .before .loop .inv .2)
 
 pub element-spec : {M : Type 1} → statement M
 element-spec =

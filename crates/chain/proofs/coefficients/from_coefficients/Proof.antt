@@ -1,35 +1,23 @@
-use mathlib.Core.Path.{_≡_, _∙_, sym, ap, refl}
-use native.Mathlib.Omega.{arith}
 use borrow.Author.Tests.{lt-ltb, le-ltb}
-use Rattle.chain.proofs.CoefficientLaws.{row-coefficients}
 use borrow.Author.Needs.{needs}
+use Rattle.chain.proofs.CoefficientLaws.{row-coefficients}
 use Rattle.chain.proofs.coefficients.from_coefficients.Statement.{statement}
 use Rattle.chain.proofs.coefficients.from_coefficients.Tie as tie
-use Rattle.chain.proofs.coefficients.from_coefficients.Reads as reads
-use Rattle.chain.proofs.coefficients.from_coefficients.Lts as lts
-use Rattle.chain.proofs.accepted.Reads as accepted-reads
-use Rattle.chain.proofs.coefficients.elements.Reads as elements-reads
-use Rattle.chain.proofs.refusal.Reads as refusal-reads
 
--- src/coefficients.rt:78:9
 refusal-requires : tie.Need-refusal-requires
 refusal-requires c κs = search needs
 
--- src/coefficients.rt:78:9
 returns : tie.Need-returns
-returns c = rw ((c .refusal .ensures), lt-ltb _ _ ((c .before .if1 .taken)))
+returns c = rw ((c .refusal .ensures), lt-ltb _ _ (c .before .if1 .taken))
 
--- src/coefficients.rt:80:14
 elements-requires : tie.Need-elements-requires
 elements-requires c κs = search needs
 
--- src/coefficients.rt:80:5
 accepted-requires : tie.Need-accepted-requires
 accepted-requires c κs = search needs
 
--- src/coefficients.rt:74:1
 returns-2 : tie.Need-returns-2
-returns-2 c = rw ((c .accepted .ensures), (c .before .elements .ensures), le-ltb _ _ ((c .before .before .if1 .left)), row-coefficients 64 ((c .before .before .before .before .args .a .now)))
+returns-2 c = rw ((c .accepted .ensures), (c .before .elements .ensures), le-ltb _ _ (c .before .before .if1 .left), row-coefficients 64 (c .before .before .before .before .args .a .now))
 
 pub from-coefficients-spec : {M : Type 1} → statement M
 from-coefficients-spec =

@@ -1,31 +1,24 @@
-use Rattle.chain.proofs.OntoTable.{table, table-entry}
 use native.Mathlib.Omega.{arith}
 use borrow.Author.Needs.{needs}
+use Rattle.chain.proofs.OntoTable.{table, table-entry}
 use Rattle.chain.proofs.coefficients.onto.Statement.{statement}
 use Rattle.chain.proofs.coefficients.onto.Tie as tie
-use Rattle.chain.proofs.coefficients.onto.Reads as reads
-use Rattle.chain.proofs.coefficients.onto.Lts as lts
 
--- src/coefficients.rt:41:10
 mul-result : tie.Need-mul-result
 mul-result c = search needs
 
--- src/coefficients.rt:41:10
 add-result : tie.Need-add-result
 add-result c = search needs
 
--- src/coefficients.rt:41:5
 mul-result-2 : tie.Need-mul-result-2
 mul-result-2 c = search needs
 
--- src/coefficients.rt:41:5
 array-read-result : tie.Need-array-read-result
 array-read-result c = search needs
 
--- src/coefficients.rt:36:1
 returns : tie.Need-returns
 unfolding table
-returns c = table-entry ((c .args .j)) ((c .args .m)) (omega arith) (omega arith)
+returns c = table-entry (c .args .j) (c .args .m) (omega arith) (omega arith)
 
 pub onto-spec : {M : Type 1} → statement M
 onto-spec = tie.close (tie.spec mul-result add-result mul-result-2 array-read-result returns)

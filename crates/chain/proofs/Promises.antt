@@ -1,0 +1,71 @@
+-- Two facts of every public call: any two answers that meet its contract are equal, and words past the given length are not read
+-- (inputs that agree up to the length get the same answer).
+use mathlib.Core.Path.{_≡_, ap, ap₂}
+use mathlib.Core.List.{List}
+use Prim.Native.Nat.{ℕ, _+_}
+use lib.ListN.{take}
+use Rattle.word.proofs.Unique.{both-are}
+use Rattle.chain.specs.declared.ChainAnswer.{ChainAnswer}
+use Rattle.chain.specs.declared.ValueAnswer.{ValueAnswer}
+use Rattle.chain.specs.Chain.{value, words, trimmed}
+use Rattle.chain.specs.SumChain as SumChain
+use Rattle.chain.specs.Answer.{answered, chain, given, unlessLong, unlessOver, trimOutcome, sumOutcome, differenceOutcome, productOutcome, shiftOutcome, coefficientsOutcome, valueAnswer}
+
+-- ---- any two conforming answers are equal
+pub trim-unique : (f : List ℕ) (k : ℕ) (r s : ChainAnswer) → r ≡ answered (trimOutcome f k) → s ≡ answered (trimOutcome f k) → r ≡ s
+trim-unique f k r s = both-are
+
+pub sum-unique : (f : List ℕ) (k : ℕ) (g : List ℕ) (l : ℕ) (r s : ChainAnswer)
+    → r ≡ answered (sumOutcome 64 f k g l) → s ≡ answered (sumOutcome 64 f k g l) → r ≡ s
+sum-unique f k g l r s = both-are
+
+pub difference-unique : (f : List ℕ) (k : ℕ) (g : List ℕ) (l : ℕ) (r s : ChainAnswer)
+    → r ≡ answered (differenceOutcome 64 f k g l) → s ≡ answered (differenceOutcome 64 f k g l) → r ≡ s
+difference-unique f k g l r s = both-are
+
+pub product-unique : (f : List ℕ) (k : ℕ) (g : List ℕ) (l : ℕ) (r s : ChainAnswer)
+    → r ≡ answered (productOutcome 64 f k g l) → s ≡ answered (productOutcome 64 f k g l) → r ≡ s
+product-unique f k g l r s = both-are
+
+pub shift-unique : (f : List ℕ) (k : ℕ) (r s : ChainAnswer)
+    → r ≡ answered (shiftOutcome 64 f k) → s ≡ answered (shiftOutcome 64 f k) → r ≡ s
+shift-unique f k r s = both-are
+
+pub value-unique : (f : List ℕ) (k : ℕ) (r s : ValueAnswer) → r ≡ valueAnswer f k → s ≡ valueAnswer f k → r ≡ s
+value-unique f k r s = both-are
+
+pub from-coefficients-unique : (a : List ℕ) (r s : ChainAnswer)
+    → r ≡ answered (coefficientsOutcome 64 a) → s ≡ answered (coefficientsOutcome 64 a) → r ≡ s
+from-coefficients-unique a r s = both-are
+
+-- ---- words past the given length are not read
+-- The two arrays hold the same words up to the length k.
+abbrev pub Agree : List ℕ → List ℕ → ℕ → Type 0
+Agree f there k = take (k + 1) f ≡ take (k + 1) there
+
+given-same : (f there : List ℕ) (k : ℕ) → Agree f there k → given f k ≡ given there k
+given-same f there k e = ap (λ h. trimmed 0 h) e
+
+module _ (w : ℕ) (f f′ : List ℕ) (k : ℕ) (same : Agree f f′ k) where
+  pub trim-reads : trimOutcome f k ≡ trimOutcome f′ k
+  trim-reads = ap (λ h. unlessLong k (chain h)) (given-same f f′ k same)
+
+  pub shift-reads : shiftOutcome w f k ≡ shiftOutcome w f′ k
+  shift-reads = ap (λ h. unlessLong k (chain (trimmed 0 (words w (SumChain.sumShift h))))) (given-same f f′ k same)
+
+  pub value-reads : valueAnswer f k ≡ valueAnswer f′ k
+  value-reads = rw (given-same f f′ k same)
+
+  module _ (g g′ : List ℕ) (l : ℕ) (too : Agree g g′ l) where
+    pub sum-reads : sumOutcome w f k g l ≡ sumOutcome w f′ k g′ l
+    sum-reads =
+        ap₂ (λ h j. unlessLong k (unlessLong l (chain (trimmed 0 (words w (SumChain.sum h j)))))) (given-same f f′ k same) (given-same g g′ l too)
+
+    pub difference-reads : differenceOutcome w f k g l ≡ differenceOutcome w f′ k g′ l
+    difference-reads =
+        ap₂ (λ h j. unlessLong k (unlessLong l (chain (trimmed 0 (SumChain.difference w h j))))) (given-same f f′ k same) (given-same g g′ l too)
+
+    pub product-reads : productOutcome w f k g l ≡ productOutcome w f′ k g′ l
+    product-reads =
+        ap₂ (λ h j. unlessLong k (unlessLong l (unlessOver h j (chain (trimmed 0 (words w (SumChain.product h j)))))))
+        (given-same f f′ k same) (given-same g g′ l too)
