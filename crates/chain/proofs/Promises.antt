@@ -7,9 +7,9 @@ use lib.ListN.{take}
 use Rattle.word.proofs.Unique.{both-are}
 use Rattle.chain.specs.declared.ChainAnswer.{ChainAnswer}
 use Rattle.chain.specs.declared.ValueAnswer.{ValueAnswer}
-use Rattle.chain.specs.Chain.{value, words, trimmed}
-use Rattle.chain.specs.SumChain as SumChain
+use Rattle.chain.specs.Chain.{words, trimmed}
 use Rattle.chain.specs.Answer.{answered, chain, given, unlessLong, unlessOver, trimOutcome, sumOutcome, differenceOutcome, productOutcome, shiftOutcome, coefficientsOutcome, valueAnswer}
+use Rattle.chain.specs.SumChain as SumChain
 
 -- ---- any two conforming answers are equal
 pub trim-unique : (f : List ℕ) (k : ℕ) (r s : ChainAnswer) → r ≡ answered (trimOutcome f k) → s ≡ answered (trimOutcome f k) → r ≡ s

@@ -1,3 +1,4 @@
+-- `accepted` gives the trimmed chain of all 17 words: the words stay, only the length is found.
 use borrow.Author.Needs.{needs}
 use Rattle.chain.proofs.Trimming.{row-trimmed}
 use Rattle.chain.proofs.Rows.{row-whole}

@@ -1,3 +1,4 @@
+-- `product` answers the trimmed product of the trimmed inputs, or refuses by their trimmed lengths.
 use mathlib.Core.Path.{_≡_}
 use Prim.Native.Nat.{_+_, _-_, _<_, _≤_}
 use native.Mathlib.Omega.{arith}
@@ -13,13 +14,13 @@ refusal-requires : tie.Need-refusal-requires
 refusal-requires c κs = search needs
 
 returns : tie.Need-returns
-returns c = rw ((c .refusal .ensures), lt-ltb _ _ (c .before .if1 .taken))
+returns c = rw ((c .refusal .ensures), lt-ltb 16 (c .before .before .args .k) (omega arith))
 
 refusal-requires-2 : tie.Need-refusal-requires-2
 refusal-requires-2 c κs = search needs
 
 returns-2 : tie.Need-returns-2
-returns-2 c = rw ((c .refusal2 .ensures), le-ltb _ _ (c .before .before .if1 .left), lt-ltb _ _ (c .before .if2 .taken))
+returns-2 c = rw ((c .refusal2 .ensures), le-ltb 16 (c .before .before .before .args .k) (omega arith), lt-ltb 16 (c .before .before .before .args .l) (omega arith))
 
 kept-requires : tie.Need-kept-requires
 kept-requires c κs = search needs

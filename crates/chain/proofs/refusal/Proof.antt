@@ -1,3 +1,4 @@
+-- `refusal` gives the constant 0 beside the number.
 use borrow.Author.Needs.{needs}
 use Rattle.chain.proofs.refusal.Statement.{statement}
 use Rattle.chain.proofs.refusal.Tie as tie

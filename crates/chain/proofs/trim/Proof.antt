@@ -1,3 +1,5 @@
+-- `trim` answers the trimmed chain of the words up to the given length.
+use native.Mathlib.Omega.{arith}
 use borrow.Author.Tests.{lt-ltb, le-ltb}
 use borrow.Author.Needs.{needs}
 use Rattle.chain.proofs.Calls.{kept-trimmed}
@@ -8,7 +10,7 @@ refusal-requires : tie.Need-refusal-requires
 refusal-requires c κs = search needs
 
 returns : tie.Need-returns
-returns c = rw ((c .refusal .ensures), lt-ltb _ _ (c .before .if1 .taken))
+returns c = rw ((c .refusal .ensures), lt-ltb 16 (c .before .before .args .k) (omega arith))
 
 kept-requires : tie.Need-kept-requires
 kept-requires c κs = search needs

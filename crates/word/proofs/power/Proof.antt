@@ -1,3 +1,4 @@
+-- `power` is the power modulo 2^64. Invariant: the product so far times the square to the rest of the exponent stays the same.
 use mathlib.Core.Path.{_≡_, _∙_, ap, sym}
 use mathlib.Core.Logic.{⊎-elim}
 use Prim.Native.Nat.{_*_, _%_, _^_, _<_}

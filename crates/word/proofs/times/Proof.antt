@@ -1,3 +1,4 @@
+-- `times` is the product modulo 2^64: the law of half words at 2^32.
 use mathlib.Core.Path.{_∙_}
 use native.Mathlib.Omega.{arith}
 use borrow.Author.Needs.{needs}

@@ -1,14 +1,16 @@
-use mathlib.Core.Path.{_≡_, _∙_, sym, ap, ap₂, refl}
-use Prim.Native.Nat.{_+_, _-_, _*_, _%_, _^_, _≤_}
-use native.Mathlib.Omega.{arith}
-use Rattle.chain.proofs.ProductRule.{past-rest, past-shift, constant-left, constant-right, rule}
-use Rattle.chain.specs.Chain.{words, row, rest}
-use Rattle.chain.specs.SumChain.{sum, sumShift, product}
+-- `product_words` is the product by document 000's rule; the two lengths together fall at each call.
+use mathlib.Core.Path.{_∙_, ap, ap₂}
 use mathlib.Core.List.{_∷_}
+use Prim.Native.Nat.{_+_, ℕ, _<_}
+use native.Mathlib.Omega.{arith}
 use borrow.Author.Needs.{needs}
-use Prim.Native.Nat.{ℕ, _<_}
 use borrow.Fn.Kinds.{In}
 use borrow.Fn.PlainCycle.{Measures, is, falls, and}
+use Rattle.chain.proofs.ProductRule.{past-rest, past-shift, constant-left, constant-right, rule}
+use Rattle.chain.specs.Chain.{words, row}
+use Rattle.chain.specs.SumChain.{product}
+use Rattle.chain.proofs.arrays.+product_words.{statement}
+use Rattle.chain.proofs.arrays.+product_words.Tie.{close}
 use Rattle.chain.proofs.arrays.product_words.Reads as product-words
 use Rattle.chain.proofs.arrays.product_words.Kinds as product-words-kinds
 use Rattle.chain.proofs.arrays.+product_words.Lts-product_words as product-words-lts
@@ -18,8 +20,6 @@ use Rattle.chain.proofs.arrays.scaled_words.Reads as scaled-words-reads
 use Rattle.chain.proofs.arrays.shift_words.Reads as shift-words-reads
 use Rattle.chain.proofs.arrays.sum_words.Reads as sum-words-reads
 use Rattle.word.proofs.times.Reads as times-reads
-use Rattle.chain.proofs.arrays.+product_words.{statement}
-use Rattle.chain.proofs.arrays.+product_words.Tie.{close}
 
 abbrev μ-product-words : Measures 0 product-words-kinds.ps ℕ
 μ-product-words κs a = a .1 .0 + a .1 .1 .1 .0
@@ -36,7 +36,6 @@ product-words-below t =
     (falls 0 product-words-kinds.ps _<_ μ-product-words t)
     product-words.Pre
 
--- src/arrays.rt:130:29
 product-words-array-read-scaled-words : (t : ℕ) → product-words-lts.Need-array-read-scaled-words (
   scaled-words-reads.Asked,
   scaled-words-reads.Learnt,
@@ -55,7 +54,6 @@ product-words-array-read-scaled-words : (t : ℕ) → product-words-lts.Need-arr
 ) (product-words-at t) product-words.Post
 product-words-array-read-scaled-words t c = search needs
 
--- src/arrays.rt:130:9
 product-words-scaled-words-requires : (t : ℕ) → product-words-lts.Need-scaled-words-requires (
   scaled-words-reads.Asked,
   scaled-words-reads.Learnt,
@@ -74,7 +72,6 @@ product-words-scaled-words-requires : (t : ℕ) → product-words-lts.Need-scale
 ) (product-words-at t) product-words.Post
 product-words-scaled-words-requires t c κs = search needs
 
--- src/arrays.rt:130:9
 product-words-returns : (t : ℕ) → product-words-lts.Need-returns (
   scaled-words-reads.Asked,
   scaled-words-reads.Learnt,
@@ -91,9 +88,8 @@ product-words-returns : (t : ℕ) → product-words-lts.Need-returns (
   preceded-reads.Asked,
   preceded-reads.Learnt,
 ) (product-words-at t) product-words.Post
-product-words-returns t c = (c .scaled-words .ensures) ∙ constant-left 64 17 ((c .before .before .args .t1)) ((c .before .before .args .t3)) (λ j h. (c .before .before .pre .1 .1 .1 .0) j (omega arith))
+product-words-returns t c = (c .scaled-words .ensures) ∙ constant-left 64 17 (c .before .before .args .t1) (c .before .before .args .t3) (λ j h. (c .before .before .pre .1 .1 .1 .0) j (omega arith))
 
--- src/arrays.rt:133:29
 product-words-array-read-scaled-words-2 :
     (t : ℕ) → product-words-lts.Need-array-read-scaled-words-2 (
       scaled-words-reads.Asked,
@@ -113,7 +109,6 @@ product-words-array-read-scaled-words-2 :
     ) (product-words-at t) product-words.Post
 product-words-array-read-scaled-words-2 t c = search needs
 
--- src/arrays.rt:133:9
 product-words-scaled-words-requires-2 : (t : ℕ) → product-words-lts.Need-scaled-words-requires-2 (
   scaled-words-reads.Asked,
   scaled-words-reads.Learnt,
@@ -132,7 +127,6 @@ product-words-scaled-words-requires-2 : (t : ℕ) → product-words-lts.Need-sca
 ) (product-words-at t) product-words.Post
 product-words-scaled-words-requires-2 t c κs = search needs
 
--- src/arrays.rt:133:9
 product-words-returns-2 : (t : ℕ) → product-words-lts.Need-returns-2 (
   scaled-words-reads.Asked,
   scaled-words-reads.Learnt,
@@ -149,9 +143,8 @@ product-words-returns-2 : (t : ℕ) → product-words-lts.Need-returns-2 (
   preceded-reads.Asked,
   preceded-reads.Learnt,
 ) (product-words-at t) product-words.Post
-product-words-returns-2 t c = (c .scaled-words2 .ensures) ∙ constant-right 64 17 ((c .before .before .before .args .t1)) ((c .before .before .before .args .t3)) (λ j h. (c .before .before .before .pre .1 .1 .1 .1) j (omega arith))
+product-words-returns-2 t c = (c .scaled-words2 .ensures) ∙ constant-right 64 17 (c .before .before .before .args .t1) (c .before .before .before .args .t3) (λ j h. (c .before .before .before .pre .1 .1 .1 .1) j (omega arith))
 
--- src/arrays.rt:135:29
 product-words-array-read-times : (t : ℕ) → product-words-lts.Need-array-read-times (
   scaled-words-reads.Asked,
   scaled-words-reads.Learnt,
@@ -170,7 +163,6 @@ product-words-array-read-times : (t : ℕ) → product-words-lts.Need-array-read
 ) (product-words-at t) product-words.Post
 product-words-array-read-times t c = search needs
 
--- src/arrays.rt:135:35
 product-words-array-read-times-2 : (t : ℕ) → product-words-lts.Need-array-read-times-2 (
   scaled-words-reads.Asked,
   scaled-words-reads.Learnt,
@@ -189,7 +181,6 @@ product-words-array-read-times-2 : (t : ℕ) → product-words-lts.Need-array-re
 ) (product-words-at t) product-words.Post
 product-words-array-read-times-2 t c = search needs
 
--- src/arrays.rt:135:9
 product-words-times-requires : (t : ℕ) → product-words-lts.Need-times-requires (
   scaled-words-reads.Asked,
   scaled-words-reads.Learnt,
@@ -208,7 +199,6 @@ product-words-times-requires : (t : ℕ) → product-words-lts.Need-times-requir
 ) (product-words-at t) product-words.Post
 product-words-times-requires t c κs = search needs
 
--- src/arrays.rt:136:36
 product-words-rest-words-requires : (t : ℕ) → product-words-lts.Need-rest-words-requires (
   scaled-words-reads.Asked,
   scaled-words-reads.Learnt,
@@ -227,7 +217,6 @@ product-words-rest-words-requires : (t : ℕ) → product-words-lts.Need-rest-wo
 ) (product-words-at t) product-words.Post
 product-words-rest-words-requires t c κs = search needs
 
--- src/arrays.rt:136:51
 product-words-sub-product-words : (t : ℕ) → product-words-lts.Need-sub-product-words (
   scaled-words-reads.Asked,
   scaled-words-reads.Learnt,
@@ -246,7 +235,6 @@ product-words-sub-product-words : (t : ℕ) → product-words-lts.Need-sub-produ
 ) (product-words-at t) product-words.Post
 product-words-sub-product-words t c = search needs
 
--- src/arrays.rt:136:9
 product-words-product-words-requires : (t : ℕ) → product-words-lts.Need-product-words-requires (
   scaled-words-reads.Asked,
   scaled-words-reads.Learnt,
@@ -263,9 +251,8 @@ product-words-product-words-requires : (t : ℕ) → product-words-lts.Need-prod
   preceded-reads.Asked,
   preceded-reads.Learnt,
 ) (product-words-at t) product-words.Post
-product-words-product-words-requires t c κs = (omega arith, (omega arith, (omega arith, ((c .before .before .before .before .pre .1 .1 .1 .0), rw ((c .rest-words .ensures)) (past-rest 17 ((c .before .before .before .before .args .t3)) ((c .before .before .before .before .args .l)) (omega arith) ((c .before .before .before .before .pre .1 .1 .1 .1)))))))
+product-words-product-words-requires t c κs = (omega arith, (omega arith, (omega arith, ((c .before .before .before .before .pre .1 .1 .1 .0), rw (c .rest-words .ensures) (past-rest 17 (c .before .before .before .before .args .t3) (c .before .before .before .before .args .l) (omega arith) (c .before .before .before .before .pre .1 .1 .1 .1))))))
 
--- src/arrays.rt:137:9
 product-words-shift-words-requires : (t : ℕ) → product-words-lts.Need-shift-words-requires (
   scaled-words-reads.Asked,
   scaled-words-reads.Learnt,
@@ -284,7 +271,6 @@ product-words-shift-words-requires : (t : ℕ) → product-words-lts.Need-shift-
 ) (product-words-at t) product-words.Post
 product-words-shift-words-requires t c κs = search needs
 
--- src/arrays.rt:138:31
 product-words-rest-words-requires-2 : (t : ℕ) → product-words-lts.Need-rest-words-requires-2 (
   scaled-words-reads.Asked,
   scaled-words-reads.Learnt,
@@ -303,7 +289,6 @@ product-words-rest-words-requires-2 : (t : ℕ) → product-words-lts.Need-rest-
 ) (product-words-at t) product-words.Post
 product-words-rest-words-requires-2 t c κs = search needs
 
--- src/arrays.rt:138:46
 product-words-sub-product-words-2 : (t : ℕ) → product-words-lts.Need-sub-product-words-2 (
   scaled-words-reads.Asked,
   scaled-words-reads.Learnt,
@@ -322,7 +307,6 @@ product-words-sub-product-words-2 : (t : ℕ) → product-words-lts.Need-sub-pro
 ) (product-words-at t) product-words.Post
 product-words-sub-product-words-2 t c = search needs
 
--- src/arrays.rt:138:9
 product-words-product-words-requires-2 : (t : ℕ) → product-words-lts.Need-product-words-requires-2 (
   scaled-words-reads.Asked,
   scaled-words-reads.Learnt,
@@ -339,9 +323,8 @@ product-words-product-words-requires-2 : (t : ℕ) → product-words-lts.Need-pr
   preceded-reads.Asked,
   preceded-reads.Learnt,
 ) (product-words-at t) product-words.Post
-product-words-product-words-requires-2 t c κs = (omega arith, (omega arith, (omega arith, (rw ((c .rest-words2 .ensures)) (past-rest 17 ((c .before .before .before .before .before .before .before .args .t1)) ((c .before .before .before .before .before .before .before .args .k)) (omega arith) ((c .before .before .before .before .before .before .before .pre .1 .1 .1 .0))), rw ((c .before .shift-words .ensures)) (past-shift 64 ((c .before .before .before .before .before .before .before .args .t3)) ((c .before .before .before .before .before .before .before .args .l)) ((c .before .before .before .before .before .before .before .pre .1 .1 .1 .1)))))))
+product-words-product-words-requires-2 t c κs = (omega arith, (omega arith, (omega arith, (rw (c .rest-words2 .ensures) (past-rest 17 (c .before .before .before .before .before .before .before .args .t1) (c .before .before .before .before .before .before .before .args .k) (omega arith) (c .before .before .before .before .before .before .before .pre .1 .1 .1 .0)), rw (c .before .shift-words .ensures) (past-shift 64 (c .before .before .before .before .before .before .before .args .t3) (c .before .before .before .before .before .before .before .args .l) (c .before .before .before .before .before .before .before .pre .1 .1 .1 .1))))))
 
--- src/arrays.rt:139:21
 product-words-sum-words-requires : (t : ℕ) → product-words-lts.Need-sum-words-requires (
   scaled-words-reads.Asked,
   scaled-words-reads.Learnt,
@@ -360,7 +343,6 @@ product-words-sum-words-requires : (t : ℕ) → product-words-lts.Need-sum-word
 ) (product-words-at t) product-words.Post
 product-words-sum-words-requires t c κs = search needs
 
--- src/arrays.rt:139:5
 product-words-preceded-requires : (t : ℕ) → product-words-lts.Need-preceded-requires (
   scaled-words-reads.Asked,
   scaled-words-reads.Learnt,
@@ -379,7 +361,6 @@ product-words-preceded-requires : (t : ℕ) → product-words-lts.Need-preceded-
 ) (product-words-at t) product-words.Post
 product-words-preceded-requires t c κs = search needs
 
--- src/arrays.rt:122:1
 product-words-returns-3 : (t : ℕ) → product-words-lts.Need-returns-3 (
   scaled-words-reads.Asked,
   scaled-words-reads.Learnt,
@@ -396,7 +377,7 @@ product-words-returns-3 : (t : ℕ) → product-words-lts.Need-returns-3 (
   preceded-reads.Asked,
   preceded-reads.Learnt,
 ) (product-words-at t) product-words.Post
-product-words-returns-3 t c = (c .preceded .ensures) ∙ ap (λ l. row 17 (((c .before .before .before .before .before .before .before .times .result)) ∷ l)) ((c .before .sum-words .ensures)) ∙ rule 64 16 ((c .before .before .before .before .before .before .before .before .before .before .args .t1)) ((c .before .before .before .before .before .before .before .before .before .before .args .t3)) ((c .before .before .before .before .before .before .before .times .ensures)) ((c .before .before .before .before .before .product-words .ensures) ∙ ap (λ l. row 17 (words 64 (product ((c .before .before .before .before .before .before .before .before .before .before .args .t1)) l))) ((c .before .before .before .before .before .before .rest-words .ensures))) ((c .before .before .product-words2 .ensures) ∙ ap₂ (λ f g. row 17 (words 64 (product f g))) ((c .before .before .before .rest-words2 .ensures)) ((c .before .before .before .before .shift-words .ensures)))
+product-words-returns-3 t c = (c .preceded .ensures) ∙ ap (λ l. row 17 ((c .before .before .before .before .before .before .before .times .result) ∷ l)) (c .before .sum-words .ensures) ∙ rule 64 16 (c .before .before .before .before .before .before .before .before .before .before .args .t1) (c .before .before .before .before .before .before .before .before .before .before .args .t3) (c .before .before .before .before .before .before .before .times .ensures) ((c .before .before .before .before .before .product-words .ensures) ∙ ap (λ l. row 17 (words 64 (product (c .before .before .before .before .before .before .before .before .before .before .args .t1) l))) (c .before .before .before .before .before .before .rest-words .ensures)) ((c .before .before .product-words2 .ensures) ∙ ap₂ (λ f g. row 17 (words 64 (product f g))) (c .before .before .before .rest-words2 .ensures) (c .before .before .before .before .shift-words .ensures))
 
 pub +product-words-spec : {M : Type 1} → statement M
 +product-words-spec = close μ-product-words λ t. product-words-lts.spec (

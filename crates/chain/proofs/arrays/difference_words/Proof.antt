@@ -1,3 +1,4 @@
+-- `difference_words` is the difference element by element. Invariant: its first i words are stored.
 use mathlib.Core.Path.{_≡_, _∙_, sym}
 use Prim.Native.Nat.{_-_, _≤_}
 use native.Mathlib.Omega.{arith}

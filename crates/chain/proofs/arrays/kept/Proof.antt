@@ -1,3 +1,4 @@
+-- `kept` holds the words up to the given length. Invariant: the first i of them are stored.
 use mathlib.Core.Path.{_≡_, _∙_, ap, refl}
 use Prim.Native.Nat.{ℕ, _<_, _+_, _-_, _≤_}
 use native.Mathlib.Omega.{arith}

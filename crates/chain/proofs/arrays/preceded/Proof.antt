@@ -1,3 +1,4 @@
+-- `preceded` puts a word first. Invariant: the first i words of the new chain are stored.
 use mathlib.Core.Path.{_≡_}
 use mathlib.Core.List.{_∷_}
 use Prim.Native.Nat.{_-_, _<_, _≤_}

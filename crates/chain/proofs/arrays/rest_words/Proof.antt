@@ -1,3 +1,4 @@
+-- `rest_words` drops the first element. Invariant: the first i of the others are stored.
 use mathlib.Core.List.{List, [], _∷_}
 use mathlib.Core.Path.{_≡_, _∙_, sym, ap}
 use Prim.Native.Nat.{ℕ, _-_, _≤_}

@@ -1,3 +1,4 @@
+-- `scaled_words` multiplies every element. Invariant: the first i products are stored.
 use mathlib.Core.Path.{_≡_, _∙_, sym}
 use Prim.Native.Nat.{_-_, _≤_}
 use native.Mathlib.Omega.{arith}

@@ -1,3 +1,4 @@
+-- `shift_words` shifts in place. Invariant: the words below the place are new, the others old.
 use mathlib.Core.Path.{_≡_, _∙_, sym, ap}
 use Prim.Native.Nat.{ℕ, _+_, _-_, _<_, _≤_}
 use native.Mathlib.Omega.{arith}

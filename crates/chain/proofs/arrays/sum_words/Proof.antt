@@ -1,3 +1,4 @@
+-- `sum_words` is the sum element by element. Invariant: its first i words are stored.
 use mathlib.Core.Path.{_≡_, _∙_, sym}
 use Prim.Native.Nat.{_-_, _≤_}
 use native.Mathlib.Omega.{arith}

@@ -1,3 +1,4 @@
+-- `trimmed_length` finds the last word that is not 0. Invariant: only zeros stand past it.
 use mathlib.Core.Path.{_≡_}
 use Prim.Native.Nat.{ℕ, _<_, _≤_}
 use native.Mathlib.Omega.{arith}

@@ -1,3 +1,4 @@
+-- `zeros` is the row of no elements.
 use mathlib.Core.Path.{refl}
 use Rattle.chain.specs.Chain.{row}
 use Rattle.chain.proofs.arrays.zeros.Statement.{statement}

@@ -1,3 +1,4 @@
+-- `element` sums over the coefficients. Invariant: the total and what is left to add stay the same together.
 use mathlib.Core.Path.{_≡_, _∙_, sym, ap}
 use Prim.Native.Nat.{_*_, _+_, _-_, _%_, _^_, _<_, _≤_}
 use native.Mathlib.Nat.{zero-add}

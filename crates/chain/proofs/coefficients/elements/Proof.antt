@@ -1,3 +1,4 @@
+-- `elements` holds all 17 elements. Invariant: the first m are stored.
 use mathlib.Core.Path.{_≡_, _∙_, sym}
 use Prim.Native.Nat.{_-_, _≤_}
 use native.Mathlib.Omega.{arith}

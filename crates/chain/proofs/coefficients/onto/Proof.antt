@@ -1,3 +1,4 @@
+-- `onto` reads the table, whose every entry is m! * S(j, m).
 use native.Mathlib.Omega.{arith}
 use borrow.Author.Needs.{needs}
 use Rattle.chain.proofs.OntoTable.{table, table-entry}
