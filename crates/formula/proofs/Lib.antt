@@ -1,0 +1,11 @@
+-- Laws of the grammar and of the scan that decides it, and each way through the readers.
+pub mod Scanning
+pub mod Reaching
+pub mod Holding
+pub mod GrammarScan
+pub mod Places
+pub mod Closed
+pub mod Numerals
+pub mod Steps
+pub mod Readings
+pub mod Ways

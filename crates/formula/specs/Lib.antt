@@ -1,0 +1,10 @@
+-- What the contracts of `formula` cite. A reader has to believe Tree, Grammar, Value, Words and Refusals; Scan and Readers are
+-- the forms that the private readers' contracts go by, and proofs/ shows that they say what Grammar and Refusals say.
+pub mod Bytes
+pub mod Tree
+pub mod Grammar
+pub mod Value
+pub mod Words
+pub mod Refusals
+pub mod Scan
+pub mod Readers

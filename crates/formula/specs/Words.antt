@@ -1,0 +1,20 @@
+-- The words of a tree: "the node count, then two words a node in postfix order, left operand first", in 257 words.
+use mathlib.Core.List.{List, [], _∷_, _++_}
+use Prim.Native.Nat.{ℕ, _-_}
+use lib.ListN.{length, replicate}
+use Rattle.formula.specs.Tree.{Tree, number, variable, sum, difference, product, minus, literalPower, raise, nodes}
+
+-- "kind (0 number, 1 x, 3 to 8 as in 01) and a word (the number's value, a literal power's n from 0 to 64, otherwise 0)".
+unfoldable pub nodeWords : Tree → List ℕ
+nodeWords (number p v) = 0 ∷ v ∷ []
+nodeWords variable = 1 ∷ 0 ∷ []
+nodeWords (sum a b) = nodeWords a ++ nodeWords b ++ 3 ∷ 0 ∷ []
+nodeWords (difference a b) = nodeWords a ++ nodeWords b ++ 4 ∷ 0 ∷ []
+nodeWords (product a b) = nodeWords a ++ nodeWords b ++ 5 ∷ 0 ∷ []
+nodeWords (minus a) = nodeWords a ++ 6 ∷ 0 ∷ []
+nodeWords (literalPower a p n) = nodeWords a ++ 7 ∷ n ∷ []
+nodeWords (raise a p b) = nodeWords a ++ nodeWords b ++ 8 ∷ 0 ∷ []
+
+-- "The rest of the 257 words are 0."
+abbrev pub treeWords : Tree → List ℕ
+treeWords t = nodes t ∷ nodeWords t ++ replicate (256 - length (nodeWords t)) 0
