@@ -9,3 +9,6 @@ pub mod Numerals
 pub mod Steps
 pub mod Readings
 pub mod Ways
+pub mod BracketCount
+pub mod Written
+pub mod Judging

@@ -60,3 +60,8 @@ run-stop S l at stop end = go (ltb at (length l)) refl
         ∙ ap (λ T. run T (suc at) (drop (suc at) l)) stop
         ∙ run-stopped at (suc at) (drop (suc at) l)
     go false e = run-end S l at (ltb-false at (length l) e) ∙ end
+
+-- A stop at a byte inside the text.
+pub run-halts : (S : State) (l : List ℕ) (at : ℕ) → at < length l → step S at (byteOf (getD l at 0)) ≡ stopped at → run S at (drop at l) ≡ stops at
+run-halts S l at h stop =
+    run-next S l at h ∙ ap (λ T. run T (suc at) (drop (suc at) l)) stop ∙ run-stopped at (suc at) (drop (suc at) l)

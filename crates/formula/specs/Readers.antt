@@ -8,7 +8,8 @@ use lib.Dec.{eqb, leb, ltb}
 use lib.ListN.{length, getD, drop, set}
 use Rattle.formula.specs.declared.readers.Found.{Found}
 use Rattle.formula.specs.declared.numbers.Numeral.{Numeral}
-use Rattle.formula.specs.Bytes.{openBracket, closeBracket}
+use Rattle.formula.specs.declared.ReadAnswer.{ReadAnswer}
+use Rattle.formula.specs.Refusals.{TooDeep, Refused, Accepted}
 use Rattle.formula.specs.Tree.{Tree, number, variable, sum, difference, product, minus, literalPower, raise, nodes, holdsX}
 use Rattle.formula.specs.Scan.{PendingSum, Level, level, noProduct, Outer, inBrackets, inExponent, fresh, State, operand, atomed, afterCaret, powered, run, stops}
 
@@ -180,3 +181,14 @@ pub record MinusSigns (l : List ℕ) (at p : ℕ) : Type 0 where
   pub none : getD l p 0 ≡ 45 → ⊥
   pub counted : (σ : PendingSum) (π : Rattle.formula.specs.Scan.PendingProduct) (m : ℕ) (o : Outer)
       → run (operand (level σ π m o)) at (drop at l) ≡ run (operand (level σ π (m + (p - at)) o)) p (drop p l)
+
+-- The first ( that is too deep, or the text's length.
+pub record DeepAt (l : List ℕ) (p : ℕ) : Type 0 where
+  pub within : p ≤ length l
+  pub clear : (q : ℕ) → q < p → TooDeep l q → ⊥
+  pub deep : p < length l → TooDeep l p
+
+-- Refusals 2 to 8 of a text, or none.
+pub data Judged (w : ℕ) (l : List ℕ) : ReadAnswer → Type 0 where
+  refuses : {n p : ℕ} → Refused w l n p → Judged w l (record { number = n; place = p })
+  accepts : {t : Tree} → Accepted w l t → Judged w l (record { number = 0; place = 0 })

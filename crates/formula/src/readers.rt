@@ -76,7 +76,7 @@ fn noted(
     }
 }
 
-fn lesser(a: u64, b: u64) -> u64
+pub fn lesser(a: u64, b: u64) -> u64
     ensures { λ r. ⌜ r ≡ min a b ⌝ }
 {
     if a < b { a } else { b }
@@ -430,7 +430,7 @@ fn read_product(text: &[u8], tree: &mut [u64], at: usize, nodes: usize, fault: u
 }
 
 // A sum: products joined by + or -, left to right.
-fn read_sum(text: &[u8], tree: &mut [u64], at: usize, nodes: usize, fault: u64) -> Found
+pub fn read_sum(text: &[u8], tree: &mut [u64], at: usize, nodes: usize, fault: u64) -> Found
     requires { ⌜ at ≤ length (now text) ⌝ }
     requires { ⌜ nodes ≤ at ⌝ }
     ensures { λ r. ⌜ SumRead (now (text .entry)) at nodes fault (now (tree .entry)) r (now (tree .exit)) ⌝ }

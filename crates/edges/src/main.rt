@@ -1,0 +1,23 @@
+// Runs the cases of the rules and both sides of every limit: one line each, a name, a tab and what the library answers.
+// The cases are tables in a module for each subject; what they must answer is in the file `stdout`.
+mod chains;
+mod coefficients;
+mod documents;
+mod postfix;
+mod print;
+mod probes;
+mod products;
+mod sequences;
+mod sums;
+mod table;
+mod text;
+
+fn main() {
+    chains::run();
+    sums::run();
+    products::run();
+    coefficients::run();
+    documents::run();
+    sequences::run();
+    probes::run();
+}

@@ -1,0 +1,125 @@
+// One line for each answer: the case's name, a tab, and the parts of the answer.
+// Which cases there are is up to the modules of the subjects.
+use crate::text::Given;
+use libc::STDOUT_FILENO;
+
+fn text(bytes: &[u8]) {
+    io::write_all(STDOUT_FILENO, bytes);
+}
+
+fn number(word: u64) {
+    io::print_decimal(STDOUT_FILENO, word);
+}
+
+// The name with a tab, the refusal's number and its place, with a blank after each.
+fn head(name: &[u8], refusal: u64, place: u64) {
+    text(name);
+    text(b"\t");
+    number(refusal);
+    text(b" ");
+    number(place);
+    text(b" ");
+}
+
+// Element i, after a comma where it is not the first; nothing past the length.
+fn element(word: u64, i: usize, length: usize) {
+    if length < i {
+        return;
+    }
+    if 0 < i {
+        text(b",");
+    }
+    number(word);
+}
+
+fn elements(f: [u64; 17], length: usize) {
+    let mut i = 0;
+    while i < 17 {
+        element(f[i], i, length);
+        i += 1;
+    }
+}
+
+// Whether every word past the length is 0.
+fn is_clean(f: [u64; 17], length: usize) -> bool {
+    let mut i = 0;
+    while i < 17 {
+        if length < i {
+            if f[i] != 0 {
+                return false;
+            }
+        }
+        i += 1;
+    }
+    true
+}
+
+// number place length elements, and whether the words past the length are clean.
+pub fn chain(name: &[u8], answer: chain::ChainAnswer) {
+    head(name, answer.number, answer.place);
+    number(answer.length as u64);
+    text(b" ");
+    let f = answer.elements;
+    elements(f, answer.length);
+    if is_clean(f, answer.length) {
+        text(b" clean\n");
+    } else {
+        text(b" dirty\n");
+    }
+}
+
+// value,value,.. at the first 20 indices: the present value and a shift in turn
+pub fn sequence(name: &[u8], start: Given) {
+    text(name);
+    text(b"\t");
+    let mut f = start;
+    let mut i = 0;
+    while i < 20 {
+        let next = step(f, i);
+        f = next;
+        i += 1;
+    }
+    text(b"\n");
+}
+
+// Prints the value at index i and shifts the chain on.
+fn step(f: Given, i: usize) -> Given {
+    let words = f.words;
+    let present = chain::value(words, f.length);
+    element(present.word, i, 19);
+    let next = chain::shift(words, f.length);
+    let shifted = next.elements;
+    Given {
+        words: shifted,
+        length: next.length,
+    }
+}
+
+// number place word
+pub fn value(name: &[u8], answer: chain::ValueAnswer) {
+    head(name, answer.number, answer.place);
+    number(answer.word);
+    text(b"\n");
+}
+
+fn signed(offset: i64) {
+    if offset < 0 {
+        text(b"-");
+        number((-1 - offset) as u64 + 1);
+    } else {
+        number(offset as u64);
+    }
+}
+
+// number place offset verdict
+pub fn probe(name: &[u8], answer: probe::ProbeAnswer) {
+    head(name, answer.number, answer.place);
+    signed(answer.offset);
+    let verdict = answer.verdict;
+    match verdict {
+        probe::Verdict::NoVerdict => text(b" none\n"),
+        probe::Verdict::Within => text(b" within\n"),
+        probe::Verdict::Ahead => text(b" ahead\n"),
+        probe::Verdict::Behind => text(b" behind\n"),
+    }
+}
