@@ -74,7 +74,7 @@ pub product-rule : (a b : ℕ) (f g : List ℕ)
 unfolding product times
 product-rule a b f g = refl
 
-product-none : (f : List ℕ) → product f [] ≡ []
+pub product-none : (f : List ℕ) → product f [] ≡ []
 unfolding product times
 product-none [] = refl
 product-none (a ∷ f) = refl

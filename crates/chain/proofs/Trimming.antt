@@ -6,12 +6,12 @@ use Prim.Native.Nat.{ℕ, zero, suc, _+_, _-_, _*_, _%_, _^_, _<_, _≤_}
 use native.Mathlib.Nat.{add-zero, mul-one, zero-mul, add-mod-mod, le-of-suc-le-suc, not-suc-le-zero}
 use native.Mathlib.Omega.{arith}
 use lib.Dec.{eqb, ltb}
-use lib.ListN.{length, getD, List·getD-eq-default}
+use lib.ListN.{length, getD, take}
 use borrow.Author.Tests.{eqb-true, ne-eqb, ltb-true, ltb-false}
 use Rattle.chain.specs.Chain.{value, rest, shift, valueAt, words, withLast, withoutTrailing, trimmed, row}
 use Rattle.chain.specs.SumChain.{sumAt, sumShift}
 use Rattle.chain.specs.ProductChain.{productAt, trimmedProduct}
-use Rattle.chain.proofs.Rows.{entry-rest, entry-row}
+use Rattle.chain.proofs.Rows.{entry-rest}
 use Rattle.chain.proofs.Values as Values
 
 -- ---- values, for any operation with a unit
@@ -125,6 +125,30 @@ pub length-trimmed-none : length (trimmed 0 []) ≡ 1
 unfolding trimmed withoutTrailing
 length-trimmed-none = refl
 
+pub length-trimmed-some : (f : List ℕ) → 0 < length (trimmed 0 f)
+unfolding trimmed
+length-trimmed-some f = omega arith
+
+-- Trimming takes the first elements, as many as it leaves.
+take-with-last : (unit a : ℕ) (f g : List ℕ) → take (length g) f ≡ g → take (length (withLast unit a g)) (a ∷ f) ≡ withLast unit a g
+unfolding withLast
+take-with-last unit a f [] e = go (eqb a unit)
+  where
+    go : (t : Bool) → take (length (cond t [] (a ∷ []))) (a ∷ f) ≡ cond t [] (a ∷ [])
+    go true = refl
+    go false = refl
+take-with-last unit a f (b ∷ g) e = ap {B = List ℕ} (λ h. a ∷ h) e
+
+take-without-trailing : (unit : ℕ) (f : List ℕ) → take (length (withoutTrailing unit f)) f ≡ withoutTrailing unit f
+unfolding withoutTrailing
+take-without-trailing unit [] = refl
+take-without-trailing unit (a ∷ f) = take-with-last unit a f (withoutTrailing unit f) (take-without-trailing unit f)
+
+pub take-trimmed : (f : List ℕ) → 0 < length f → take (length (trimmed 0 f)) f ≡ trimmed 0 f
+unfolding trimmed
+take-trimmed [] h = absurd (not-suc-le-zero h)
+take-trimmed (a ∷ f) h = ap {B = List ℕ} (λ g. a ∷ g) (take-without-trailing 0 f)
+
 -- ---- the last element that is not 0 ends the trimmed chain
 nothing-left : (f : List ℕ) → ((j : ℕ) → getD f j 0 ≡ 0) → withoutTrailing 0 f ≡ []
 unfolding withoutTrailing withLast
@@ -173,14 +197,6 @@ zero-down f n here none j h = go (ltb n j) refl
       where
         same : j ≤ n → j ≡ n
         same g = omega arith
-
--- Past its trimmed length a chain has only zeros.
-pub zero-past : (f : List ℕ) (j : ℕ) → length (trimmed 0 f) ≤ j → getD f j 0 ≡ 0
-zero-past f j h =
-    sym (entry-row (suc j) f j (omega arith))
-    ∙ ap (λ g. getD g j 0) (sym (row-trimmed (suc j) f))
-    ∙ entry-row (suc j) (trimmed 0 f) j (omega arith)
-    ∙ List·getD-eq-default (trimmed 0 f) 0 h
 
 -- ---- a shift keeps the trimmed length: the last element that is not 0 stays
 module _ (w : ℕ) where

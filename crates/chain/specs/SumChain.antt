@@ -1,4 +1,4 @@
--- Sum chains: value, shift, sum, difference, scaling, product and power, by document 000's rules.
+-- Sum chains: value, shift and inverse shift, sum, difference, scaling, product and power, by document 000's rules.
 -- Product chains are in ProductChain.antt; the answers of the public calls in Answer.antt.
 use mathlib.Core.List.{List, [], _∷_, map}
 use Prim.Native.Nat.{ℕ, zero, suc, _+_, _*_}
@@ -11,6 +11,16 @@ sumAt f i = Chain.valueAt _+_ 0 f i
 
 abbrev pub sumShift : List ℕ → List ℕ
 sumShift f = Chain.shift _+_ f
+
+-- Document 000's inverse shift: a constant stays, and {φ0, +, Φ1} becomes "{φ0 - V(E^-1(Φ1)), +, E^-1(Φ1)}": the rest is unshifted
+-- first, then its value is subtracted. `lessNext w a g` puts a, less the value of g, before g.
+unfoldable pub lessNext : ℕ → ℕ → List ℕ → List ℕ
+lessNext w a [] = a ∷ []
+lessNext w a (b ∷ g) = Word.difference w a b ∷ b ∷ g
+
+unfoldable pub inverseShift : ℕ → List ℕ → List ℕ
+inverseShift w [] = []
+inverseShift w (a ∷ f) = lessNext w a (inverseShift w f)
 
 -- "C+S, S+C, S+S, and the same under -: element by element, the shorter one filled with zeros, C standing as f0."
 abbrev pub sum : List ℕ → List ℕ → List ℕ

@@ -1,11 +1,11 @@
-// Arrays of 17 words as sum chains, 0 past their elements: element by element, with the supplied wrapping sums.
+// Sum chains as arrays of 17 words, 0 past their elements, and as lent slices that change in place, with the supplied wrapping sums.
 // Lengths are checked by the callers in the crate's root.
 ghost use mathlib.Core.Path.{_≡_};
-ghost use mathlib.Core.List.{[], _∷_};
-ghost use Prim.Native.Nat.{ℕ, _+_, _-_, _<_, _≤_};
-ghost use lib.ListN.{length, take, getD};
-ghost use Rattle.chain.specs.Chain.{rest, trimmed, row, words};
-ghost use Rattle.chain.specs.SumChain.{sum, difference, scaled, sumShift, product};
+ghost use mathlib.Core.List.{[]};
+ghost use Prim.Native.Nat.{_+_, _-_, _≤_};
+ghost use lib.ListN.{length, take};
+ghost use Rattle.chain.specs.Chain.{trimmed, row, words};
+ghost use Rattle.chain.specs.SumChain.{sum, difference, sumShift, inverseShift, product};
 
 // The constant 0.
 pub fn zeros() -> [u64; 17]
@@ -66,75 +66,62 @@ pub fn difference_words(f: [u64; 17], g: [u64; 17]) -> [u64; 17]
     r
 }
 
-pub fn scaled_words(c: u64, f: [u64; 17]) -> [u64; 17]
-    ensures { λ r. ⌜ r ≡ row 17 (words 64 (scaled c f)) ⌝ }
-{
-    let mut r = zeros();
-    let mut i = 0;
-    while i < 17 {
-        r[i] = word::times(c, f[i]);
-        i += 1;
-    }
-    r
-}
-
 // One shift in place, from the bottom up: each word meets its neighbour's old value.
-pub fn shift_words(mut f: [u64; 17]) -> [u64; 17]
-    ensures { λ r. ⌜ r ≡ words 64 (sumShift f) ⌝ }
+pub fn shift_part(f: &mut [u64])
+    ensures { λ _. ⌜ now (f .exit) ≡ words 64 (sumShift (now (f .entry))) ⌝ }
 {
-    let mut left = 16;
-    while 0 < left {
-        let at = 16 - left;
+    let len = f.len();
+    let mut left = len;
+    while 1 < left {
+        let at = len - left;
         f[at] = std::num::wrapping_add_u64(f[at], f[at + 1]);
         left -= 1;
     }
-    f
 }
 
-// The chain without its first word.
-fn rest_words(f: [u64; 17]) -> [u64; 17]
-    ensures { λ r. ⌜ r ≡ row 17 (rest f) ⌝ }
+// One shift taken back in place, from the top down: each word meets its neighbour's new value.
+fn unshift_part(f: &mut [u64])
+    ensures { λ _. ⌜ now (f .exit) ≡ inverseShift 64 (now (f .entry)) ⌝ }
 {
-    let mut r = zeros();
-    let mut i = 0;
-    while i < 16 {
-        r[i] = f[i + 1];
-        i += 1;
+    let mut left = f.len();
+    while 1 < left {
+        let at = left - 2;
+        f[at] = std::num::wrapping_sub_u64(f[at], f[at + 1]);
+        left -= 1;
     }
-    r
 }
 
-// The chain with a word put before it; its last word falls out.
-fn preceded(first: u64, f: [u64; 17]) -> [u64; 17]
-    ensures { λ r. ⌜ r ≡ row 17 (first ∷ f) ⌝ }
+// Adds the product of f and g to the words of out, by document 000's rule; g is shifted and shifted back on the way.
+fn add_product(out: &mut [u64], f: &[u64], g: &mut [u64])
+    ensures { λ _. ⌜ now (out .exit) ≡ row (length (now (out .entry))) (words 64 (sum (now (out .entry)) (product (now (f .entry)) (now (g .entry))))) ⌝ }
+    ensures { λ _. ⌜ now (g .exit) ≡ now (g .entry) ⌝ }
 {
-    let mut r = zeros();
-    r[0] = first;
-    let mut i = 1;
-    while i < 17 {
-        r[i] = f[i - 1];
-        i += 1;
+    if out.len() == 0 {
+        return;
     }
-    r
-}
-
-// The product by document 000's rule, of chains with 0 past their lengths: f0*g0, then f*g1 + f1*(shifted g).
-pub fn product_words(f: [u64; 17], k: usize, g: [u64; 17], l: usize) -> [u64; 17]
-    requires { ⌜ k ≤ 16 ⌝ }
-    requires { ⌜ l ≤ 16 ⌝ }
-    requires { ⌜ ((j : ℕ) → k < j → getD f j 0 ≡ 0) ⌝ }
-    requires { ⌜ ((j : ℕ) → l < j → getD g j 0 ≡ 0) ⌝ }
-    ensures { λ r. ⌜ r ≡ row 17 (words 64 (product f g)) ⌝ }
-{
-    if k == 0 {
-        return scaled_words(f[0], g);
+    if f.len() == 0 {
+        return;
     }
-    if l == 0 {
-        return scaled_words(g[0], f);
+    if g.len() == 0 {
+        return;
     }
     let first = word::times(f[0], g[0]);
-    let left = product_words(f, k, rest_words(g), l - 1);
-    let shifted = shift_words(g);
-    let right = product_words(rest_words(f), k - 1, shifted, l);
-    preceded(first, sum_words(left, right))
+    out[0] = std::num::wrapping_add_u64(out[0], first);
+    add_product(&mut out[1..], f, &mut g[1..]);
+    shift_part(g);
+    add_product(&mut out[1..], &f[1..], g);
+    unshift_part(g);
+}
+
+// The product of the chains f of length k and g of length l.
+pub fn product_words(f: [u64; 17], k: usize, mut g: [u64; 17], l: usize) -> [u64; 17]
+    requires { ⌜ k ≤ 16 ⌝ }
+    requires { ⌜ l ≤ 16 ⌝ }
+    ensures { λ r. ⌜ r ≡ row 17 (words 64 (product (take (k + 1) f) (take (l + 1) g))) ⌝ }
+{
+    let mut out = zeros();
+    let f_count = k + 1;
+    let g_count = l + 1;
+    add_product(&mut out, &f[..f_count], &mut g[..g_count]);
+    out
 }

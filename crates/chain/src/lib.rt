@@ -3,6 +3,8 @@
 mod arrays;
 mod coefficients;
 
+// One shift of a lent chain, in place.
+pub use arrays::shift_part;
 pub use coefficients::from_coefficients;
 ghost use mathlib.Core.Path.{_≡_};
 ghost use Rattle.chain.specs.Chain.{trimmed};
@@ -115,7 +117,9 @@ pub fn shift(f: [u64; 17], k: usize) -> ChainAnswer
     if LONGEST < k {
         return refusal(14);
     }
-    accepted(arrays::shift_words(arrays::kept(f, k)))
+    let mut shifted = arrays::kept(f, k);
+    arrays::shift_part(&mut shifted);
+    accepted(shifted)
 }
 
 // The word at the present point.

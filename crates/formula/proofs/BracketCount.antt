@@ -1,9 +1,8 @@
 -- Refusal 3: brackets counted byte by byte, and the first ( that opens more than 32.
-use mathlib.Core.Path.{_≡_, refl, sym, ap, ap₂, _∙_}
+use mathlib.Core.Path.{_≡_, refl, sym, ap, _∙_}
 use mathlib.Core.Bool.{Bool, true, false, cond}
 use mathlib.Core.List.{List, [], _∷_, _++_}
-use Prim.Native.Nat.{ℕ, zero, suc, _+_, _≤_, _<_}
-use native.Mathlib.Nat.{zero-add, suc-add}
+use Prim.Native.Nat.{ℕ, suc, _+_, _≤_, _<_}
 use native.Mathlib.Numerals.{add-one}
 use native.Mathlib.Omega.{arith}
 use lib.Dec.{eqb, ltb}
@@ -50,9 +49,14 @@ pub record DeepSoFar (l : List ℕ) (i opened closed : ℕ) : Type 0 where
 pub deep-starts : (l : List ℕ) → DeepSoFar l 0 0 0
 unfolding count
 deep-starts l = record {
-    within = omega arith; opens = refl; closes = refl; few = omega arith; fewer = omega arith; level = omega arith;
-    clear = λ q h deep. absurd (native.Mathlib.Nat.not-suc-le-zero h);
-  }
+  within = omega arith;
+  opens = refl;
+  closes = refl;
+  few = omega arith;
+  fewer = omega arith;
+  level = omega arith;
+  clear = λ q h deep. absurd (native.Mathlib.Nat.not-suc-le-zero h);
+}
 
 module _ (l : List ℕ) (i opened closed more less : ℕ) (so : DeepSoFar l i opened closed) (h : i < length l)
     (up : more ≡ cond (eqb (getD l i 0) 40) (opened + 1) opened) (down : less ≡ cond (eqb (getD l i 0) 41) (closed + 1) closed) where
@@ -68,10 +72,10 @@ module _ (l : List ℕ) (i opened closed more less : ℕ) (so : DeepSoFar l i op
 
   pub deep-found : 32 + less < more → DeepAt l i
   deep-found deep = record {
-      within = so .within;
-      clear = so .clear;
-      deep = λ _. record { inside = h; opens = opens (eqb (getD l i 0) 40) refl up; deep = rw (← opens-now, ← closes-now) deep };
-    }
+    within = so .within;
+    clear = so .clear;
+    deep = λ _. record { inside = h; opens = opens (eqb (getD l i 0) 40) refl up; deep = rw (← opens-now, ← closes-now) deep };
+  }
     where
       opens : (t : Bool) → eqb (getD l i 0) 40 ≡ t → more ≡ cond t (opened + 1) opened → getD l i 0 ≡ 40
       opens true e q = eqb-true (getD l i 0) 40 e
@@ -79,14 +83,14 @@ module _ (l : List ℕ) (i opened closed more less : ℕ) (so : DeepSoFar l i op
 
   pub deep-goes-on : more ≤ 32 + less → DeepSoFar l (i + 1) more less
   deep-goes-on level = record {
-      within = omega arith;
-      opens = opens-now;
-      closes = closes-now;
-      few = omega (arith, so .few, up, at-most (eqb (getD l i 0) 40) opened);
-      fewer = omega (arith, so .fewer, down, at-most (eqb (getD l i 0) 41) closed);
-      level = level;
-      clear = λ q p deep. go q p deep (ltb q i) refl;
-    }
+    within = omega arith;
+    opens = opens-now;
+    closes = closes-now;
+    few = omega (arith, so .few, up, at-most (eqb (getD l i 0) 40) opened);
+    fewer = omega (arith, so .fewer, down, at-most (eqb (getD l i 0) 41) closed);
+    level = level;
+    clear = λ q p deep. go q p deep (ltb q i) refl;
+  }
     where
       go : (q : ℕ) → q < i + 1 → TooDeep l q → (t : Bool) → ltb q i ≡ t → ⊥
       go q p deep true e = so .clear q (ltb-true q i e) deep

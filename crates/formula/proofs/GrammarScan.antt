@@ -12,9 +12,9 @@ use Rattle.formula.specs.Grammar.{Formula}
 use Rattle.formula.specs.Refusals.{Begins, StopsAt}
 use Rattle.formula.specs.Scan.{bottom, fresh, State, operand, stopped, byteOf, step, Outcome, reads, stops, ending, fed, run, scanned}
 use Rattle.formula.proofs.Scanning.{run-fed, fed-append, run-stopped}
+use Rattle.formula.proofs.Holding.{Next, goes-on, halts, keeps, begins-before, holds-nothing, AtEnd, a-formula, too-early, holds-ending}
 pub use Rattle.formula.proofs.Reaching.{complete}
 pub use Rattle.formula.proofs.Holding.{Holds, viable}
-use Rattle.formula.proofs.Holding.{Next, goes-on, halts, keeps, begins-before, holds-nothing, AtEnd, a-formula, too-early, holds-ending}
 
 abbrev start : State
 start = operand (fresh bottom)

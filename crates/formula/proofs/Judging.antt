@@ -1,9 +1,9 @@
 -- From what the sum reader answers on the whole text to the refusal of the text, or its tree.
-use mathlib.Core.Path.{_≡_, refl, sym, ap, ap₂, _∙_}
-use mathlib.Core.Bool.{Bool, true, false, cond}
+use mathlib.Core.Path.{_≡_, refl, ap, _∙_}
+use mathlib.Core.Bool.{Bool, true, false}
 use mathlib.Core.Logic.{_⊎_, inl, inr}
 use mathlib.Core.List.{List, [], _∷_, _++_}
-use Prim.Native.Nat.{ℕ, zero, suc, _+_, _/_, _%_, _^_, _≤_, _<_, min}
+use Prim.Native.Nat.{ℕ, _≤_, _<_}
 use native.Mathlib.Omega.{arith}
 use lib.Dec.{ltb}
 use lib.ListN.{length, getD, take, drop, set, replicate, length-replicate}
@@ -13,13 +13,13 @@ use Rattle.formula.specs.declared.readers.Found.{Found}
 use Rattle.formula.specs.declared.ReadAnswer.{ReadAnswer}
 use Rattle.formula.specs.Tree.{Tree, nodes}
 use Rattle.formula.specs.Grammar.{Formula}
-use Rattle.formula.specs.Refusals.{TooDeep, StopsAt, Fault, too-long, too-deep, not-grammar, number-over, exponent-number-over, exponent-over, too-many, x-in-base, even-base, Refused, Accepted, Reading, refused, accepted}
+use Rattle.formula.specs.Refusals.{TooDeep, Fault, too-long, too-deep, not-grammar, number-over, exponent-number-over, exponent-over, too-many, x-in-base, even-base, Accepted, Reading, refused, accepted}
 use Rattle.formula.specs.Words.{treeWords}
-use Rattle.formula.specs.Scan.{Byte, plusByte, minusByte, starByte, caretByte, openByte, closeByte, xByte, zeroByte, digitByte, otherByte, byteOf, Outer, bottom, fresh, State, operand, powered, stopped, afterPower, closed, step, sumWith, productWith, negatives, Outcome, reads, stops, ended, ending, run, scanned}
-use Rattle.formula.specs.Readers.{faultCode, noFault, faulted, wrote, NoSign, SumRead, DeepAt, Judged, refuses, accepts}
+use Rattle.formula.specs.Scan.{Byte, plusByte, minusByte, starByte, caretByte, openByte, closeByte, xByte, zeroByte, digitByte, otherByte, byteOf, bottom, fresh, powered, stopped, afterPower, closed, step, sumWith, productWith, negatives, Outcome, reads, stops, ended, ending, run, scanned}
+use Rattle.formula.specs.Readers.{wrote, SumRead, DeepAt, Judged, refuses, accepts}
 use Rattle.formula.proofs.Scanning.{Is, byte-is}
 use Rattle.formula.proofs.Steps.{run-halts}
-use Rattle.formula.proofs.Ways.{Got, got, lost, WholeBracket}
+use Rattle.formula.proofs.Ways.{got, lost, WholeBracket}
 use Rattle.formula.proofs.GrammarScan.{complete, sound, unambiguous, stops-at, stops-unique}
 
 -- ---- 2: over 1,024 bytes
@@ -100,11 +100,13 @@ module _ (l : List ℕ) (f : ℕ) (out : List ℕ) (r : Found) (now : List ℕ) 
         where
           never : {o : Outcome} {t : Tree} {p : ℕ} → o ≡ reads t → o ≡ stops p → _≡_ {A = ℕ} 0 1
           never a b = cc
+
       reached : (whole : WholeBracket l 0 0 f out r now) → (b : Bool) → ltb (r .at) (length l) ≡ b → (r .nodes ≡ nodes t) × (now ≡ wrote 64 t 0 out)
       reached whole true e = absurd (clash (r .at) (scanned-short whole (ltb-true (r .at) (length l) e)))
       reached whole false e =
           let same : whole .t ≡ t = unambiguous (whole-formula whole (ltb-false (r .at) (length l) e)) means in
           (whole .counted ∙ omega (arith, ap (λ u. nodes u) same), whole .writes ∙ ap (λ u. wrote 64 u 0 out) same)
+
       go : (b : Bool) → r .ok ≡ b → (r .nodes ≡ nodes t) × (now ≡ wrote 64 t 0 out)
       go true e = let whole = got read e in reached whole (ltb (r .at) (length l)) refl
       go false e = absurd (clash (r .at) (lost read e bottom))

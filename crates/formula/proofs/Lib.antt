@@ -12,3 +12,7 @@ pub mod Ways
 pub mod BracketCount
 pub mod Written
 pub mod Judging
+pub mod Parity
+pub mod Faults
+pub mod Answers
+pub mod Deciding

@@ -1,22 +1,22 @@
 -- Each way through a reader, as its contract says it: what the scan does on the bytes that the reader took.
 use mathlib.Core.Path.{_≡_, refl, sym, ap, ap₂, _∙_}
-use mathlib.Core.Bool.{Bool, true, false, cond, _||_, _&&_}
-use mathlib.Core.List.{List, [], _∷_}
-use Prim.Native.Nat.{ℕ, zero, suc, _+_, _-_, _*_, _%_, _^_, _≤_, _<_, min}
+use mathlib.Core.Bool.{Bool, true, false, _&&_}
+use mathlib.Core.List.{List}
+use Prim.Native.Nat.{ℕ, zero, suc, _+_, _-_, _*_, _%_, _^_, _≤_, _<_}
 use native.Mathlib.Numerals.{add-one}
 use native.Mathlib.Omega.{arith}
-use lib.Dec.{eqb, leb, ltb}
+use lib.Dec.{leb}
 use lib.ListN.{length, getD, drop}
-use borrow.Author.Tests.{leb-true, leb-false, le-leb, lt-leb, lt-ltb, le-ltb}
+use borrow.Author.Tests.{leb-true, le-leb, lt-leb, lt-ltb}
 use Rattle.formula.specs.declared.readers.Found.{Found}
 use Rattle.formula.specs.declared.numbers.Numeral.{Numeral}
 use Rattle.formula.specs.Bytes.{Digit}
-use Rattle.formula.specs.Tree.{Tree, number, variable, sum, difference, product, minus, literalPower, raise, nodes, holdsX}
-use Rattle.formula.specs.Scan.{Byte, plusByte, minusByte, starByte, caretByte, openByte, closeByte, xByte, zeroByte, digitByte, otherByte, byteOf, PendingSum, noSum, adding, subtracting, PendingProduct, noProduct, multiplying, Level, level, Outer, bottom, inBrackets, inExponent, fresh, State, operand, inNumber, atomed, afterCaret, inLiteral, powered, stopped, negatives, productWith, sumWith, closed, afterPower, afterAtom, afterDigit, afterLiteralDigit, beforeOperand, beforeExponent, step, stops, ended, ending, run}
-use Rattle.formula.specs.Readers
-use Rattle.formula.specs.Readers.{kept, parity, faultCode, noFault, numberFault, literalFault, baseFault, faulted, put, wrote, wroteMinus, stopping, finding, found, Read, fails, gets, Anything, NoStar, NoSign, InSum, inSum, Enclosing, brackets, exponent, SumRead, ProductRead, PowerRead, AtomRead, BracketRead, NumberRead, MinusSigns}
+use Rattle.formula.specs.Tree.{Tree, number, variable, literalPower, nodes}
+use Rattle.formula.specs.Scan.{Byte, plusByte, minusByte, starByte, caretByte, openByte, closeByte, xByte, zeroByte, digitByte, otherByte, byteOf, PendingSum, PendingProduct, Level, level, Outer, State, operand, inNumber, atomed, afterCaret, inLiteral, powered, afterPower, afterAtom, afterDigit, afterLiteralDigit, beforeOperand, beforeExponent, step, ending, run}
+use Rattle.formula.specs.Readers.{kept, put, wroteMinus, finding, NumberRead, MinusSigns}
 use Rattle.formula.proofs.Scanning.{Is, byte-is, byte-digit, takes}
-use Rattle.formula.proofs.Steps.{inside, run-byte, run-same, run-stop}
+use Rattle.formula.proofs.Steps.{inside, run-byte, run-same}
+use Rattle.formula.specs.Readers
 
 -- ---- numbers
 -- The test for a digit, as facts.

@@ -1,20 +1,19 @@
 -- Each way through the readers of the cycle: from what the called readers answer to what the reader's own contract says.
 use mathlib.Core.Path.{_≡_, refl, sym, ap, ap₂, _∙_}
 use mathlib.Core.Bool.{Bool, true, false, cond, _||_, true≢false}
-use mathlib.Core.List.{List, [], _∷_}
+use mathlib.Core.List.{List}
 use Prim.Native.Nat.{ℕ, zero, suc, _+_, _-_, _*_, _%_, _^_, _≤_, _<_, min}
 use native.Mathlib.Nat.{zero-add, suc-add}
-use native.Mathlib.Numerals.{add-one}
 use native.Mathlib.Omega.{arith}
 use lib.Dec.{eqb, leb, ltb}
 use lib.ListN.{length, getD, drop}
-use borrow.Author.Tests.{leb-true, leb-false, le-leb, lt-leb, lt-ltb, le-ltb, ltb-true, ltb-false, ne-eqb, eq-eqb, eqb-true, eqb-false}
+use borrow.Author.Tests.{le-leb, lt-leb, ltb-true, ltb-false, ne-eqb, eq-eqb, eqb-true, eqb-false}
 use Rattle.formula.specs.declared.readers.Found.{Found}
 use Rattle.formula.specs.declared.numbers.Numeral.{Numeral}
 use Rattle.formula.specs.Bytes.{Digit}
 use Rattle.formula.specs.Tree.{Tree, number, variable, sum, difference, product, minus, literalPower, raise, nodes, holdsX}
-use Rattle.formula.specs.Scan.{Byte, plusByte, minusByte, starByte, caretByte, openByte, closeByte, xByte, zeroByte, digitByte, otherByte, byteOf, PendingSum, noSum, adding, subtracting, PendingProduct, noProduct, multiplying, Level, level, Outer, bottom, inBrackets, inExponent, fresh, State, operand, inNumber, atomed, afterCaret, inLiteral, powered, stopped, negatives, productWith, sumWith, closed, afterPower, afterAtom, beforeOperand, beforeExponent, step, stops, ended, ending, run}
-use Rattle.formula.specs.Readers.{kept, parity, faultCode, noFault, numberFault, literalFault, baseFault, faulted, put, wrote, wroteMinus, stopping, finding, literalFound, productFound, sumFound, found, Read, fails, gets, Anything, NoStar, NoSign, InSum, inSum, Enclosing, brackets, exponent, opened, enclosed, SumRead, ProductRead, PowerRead, AtomRead, BracketRead, NumberRead, MinusSigns}
+use Rattle.formula.specs.Scan.{Byte, plusByte, minusByte, starByte, caretByte, openByte, closeByte, xByte, zeroByte, digitByte, otherByte, byteOf, PendingSum, noSum, adding, subtracting, PendingProduct, noProduct, multiplying, Level, level, Outer, bottom, inBrackets, inExponent, fresh, State, operand, atomed, afterCaret, powered, stopped, negatives, productWith, sumWith, closed, afterPower, afterAtom, beforeOperand, beforeExponent, step, stops, ended, ending, run}
+use Rattle.formula.specs.Readers.{kept, parity, faultCode, noFault, literalFault, baseFault, faulted, put, wrote, wroteMinus, stopping, finding, literalFound, productFound, sumFound, found, Read, fails, gets, Anything, NoStar, NoSign, InSum, inSum, Enclosing, brackets, exponent, opened, enclosed, SumRead, ProductRead, PowerRead, AtomRead, BracketRead, NumberRead, MinusSigns}
 use Rattle.formula.proofs.Scanning.{Is, byte-is}
 use Rattle.formula.proofs.Steps.{inside, run-byte, run-same, run-stop}
 use Rattle.formula.proofs.Readings.{odd-product}

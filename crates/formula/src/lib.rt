@@ -16,11 +16,14 @@ ghost use Rattle.formula.specs.Refusals.{Accepted, Reading};
 ghost use Rattle.formula.specs.Readers.{faultCode, noFault, Judged};
 
 const LONGEST_TEXT: usize = 1024;
+
 const MOST_NODES: usize = 128;
+
 const TREE_WORDS: usize = 257;
 
 // No fault, and 7 at place 0, as `readers` codes them.
 const NO_FAULT: u64 = 18432;
+
 const TOO_MANY: u64 = 14336;
 
 // The refusal's number and place; 0 and 0 if accepted.

@@ -15,14 +15,17 @@ returns c = rw ((c .refusal .ensures), lt-ltb 16 (c .before .before .args .k) (o
 kept-requires : tie.Need-kept-requires
 kept-requires c κs = search needs
 
-shift-words-requires : tie.Need-shift-words-requires
-shift-words-requires c κs = search needs
+slice-aggregate-shift-part : tie.Need-slice-aggregate-shift-part
+slice-aggregate-shift-part c = search needs
+
+shift-part-requires : tie.Need-shift-part-requires
+shift-part-requires c κs = search needs
 
 accepted-requires : tie.Need-accepted-requires
 accepted-requires c κs = search needs
 
 returns-2 : tie.Need-returns-2
-returns-2 c = rw ((c .accepted .ensures), (c .before .shift-words .ensures), (c .before .before .kept .ensures), le-ltb _ _ (c .before .before .before .if1 .left), shift-trims 64 (c .before .before .before .before .args .f) (c .before .before .before .before .args .k) (search needs))
+returns-2 c = rw ((c .accepted .ensures), (c .before .before .shift-part .ensures), (c .before .before .before .before .kept .ensures), le-ltb _ _ (c .before .before .before .before .before .if1 .left), shift-trims 64 (c .before .before .before .before .before .before .args .f) (c .before .before .before .before .before .before .args .k) (search needs))
 
 pub shift-spec : {M : Type 1} → statement M
 shift-spec =
@@ -31,6 +34,7 @@ shift-spec =
     refusal-requires
     returns
     kept-requires
-    shift-words-requires
+    slice-aggregate-shift-part
+    shift-part-requires
     accepted-requires
     returns-2)

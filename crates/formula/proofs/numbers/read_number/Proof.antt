@@ -1,20 +1,14 @@
-use borrow.Author.Tests.{not-true, not-false}
-use mathlib.Core.Path.{_≡_, _∙_, sym, ap, refl}
-use Prim.Native.Nat.{ℕ, _+_, _-_, _<_, _≤_}
+-- `read_number` reads 0, or digits. Invariant: the scan stands in the number that was read so far.
+use mathlib.Core.Path.{_∙_, sym}
+use Prim.Native.Nat.{_-_}
 use native.Mathlib.Omega.{arith}
-use lib.ListN.{length, getD, drop}
-use Rattle.formula.specs.Bytes.{Digit}
+use lib.ListN.{length}
+use borrow.Author.Tests.{not-true, not-false}
+use borrow.Author.Needs.{needs}
 use Rattle.formula.proofs.Steps.{inside}
 use Rattle.formula.proofs.Readings.{NumberSoFar, digit-test, no-digit-test, number-nought, number-starts, number-goes-on, number-ends}
-use borrow.Author.Needs.{needs}
 use Rattle.formula.proofs.numbers.read_number.Statement.{statement}
 use Rattle.formula.proofs.numbers.read_number.Tie as tie
-use Rattle.formula.proofs.numbers.read_number.Reads as reads
-use Rattle.formula.proofs.numbers.read_number.Lts as lts
-use Rattle.formula.proofs.numbers.byte_at.Reads as byte-at-reads
-use Rattle.formula.proofs.numbers.digit_of.Reads as digit-of-reads
-use Rattle.formula.proofs.numbers.is_digit.Reads as is-digit-reads
-use Rattle.formula.proofs.numbers.pushed.Reads as pushed-reads
 
 abbrev Inv-loop : tie.InvT-loop
 Inv-loop text at first digit number₀ number = NumberSoFar text at number
@@ -22,53 +16,41 @@ Inv-loop text at first digit number₀ number = NumberSoFar text at number
 abbrev μ-loop : tie.MeasureT-loop
 μ-loop text at first digit number₀ number = length text - number .at
 
--- src/numbers.rt:75:9
 byte-at-requires : tie.Need-byte-at-requires Inv-loop μ-loop
 byte-at-requires c κs = search needs
 
--- src/numbers.rt:76:9
 digit-of-requires : tie.Need-digit-of-requires Inv-loop μ-loop
 digit-of-requires c κs = omega (arith, (c .byte-at .ensures))
 
--- src/numbers.rt:78:13
 add-t8 : tie.Need-add-t8 Inv-loop μ-loop
-add-t8 c = omega (arith, inside ((c .before .before .before .args .text .now)) ((c .before .before .before .args .at)) (omega arith))
+add-t8 c = omega (arith, inside (c .before .before .before .args .text .now) (c .before .before .before .args .at) (omega arith))
 
--- src/numbers.rt:84:9
 returns : tie.Need-returns Inv-loop μ-loop
-returns c = number-nought ((c .before .before .before .before .args .text .now)) ((c .before .before .before .before .args .at)) ((c .before .digit-of .result)) ((c .before .digit-of .ensures) ∙ (c .before .before .byte-at .ensures)) ((c .if1 .taken))
+returns c = number-nought (c .before .before .before .before .args .text .now) (c .before .before .before .before .args .at) (c .before .digit-of .result) ((c .before .digit-of .ensures) ∙ (c .before .before .byte-at .ensures)) (c .if1 .taken)
 
--- src/numbers.rt:86:5
 loop-holds : tie.Need-loop-holds Inv-loop μ-loop
-loop-holds c = number-starts ((c .before .before .before .before .args .text .now)) ((c .before .before .before .before .args .at)) ((c .before .digit-of .result)) ((c .before .digit-of .ensures) ∙ (c .before .before .byte-at .ensures)) (omega (arith, (c .before .digit-of .ensures), (c .before .before .byte-at .ensures))) ((c .if1 .left))
+loop-holds c = number-starts (c .before .before .before .before .args .text .now) (c .before .before .before .before .args .at) (c .before .digit-of .result) ((c .before .digit-of .ensures) ∙ (c .before .before .byte-at .ensures)) (omega (arith, (c .before .digit-of .ensures), (c .before .before .byte-at .ensures))) (c .if1 .left)
 
--- src/numbers.rt:87:13
 byte-at-requires-2 : tie.Need-byte-at-requires-2 Inv-loop μ-loop
 byte-at-requires-2 c κs = search needs
 
--- src/numbers.rt:88:13
 is-digit-requires : tie.Need-is-digit-requires Inv-loop μ-loop
 is-digit-requires c κs = search needs
 
--- src/numbers.rt:89:13
 returns-2 : tie.Need-returns-2 Inv-loop μ-loop
-returns-2 c = number-ends ((c .before .before .before .before .before .before .before .before .args .text .now)) ((c .before .before .before .before .before .before .before .before .args .at)) ((c .before .before .before .loop .number)) ((c .before .before .before .loop .inv)) (λ d. no-digit-test ((c .before .before .byte-at2 .result)) (sym ((c .before .is-digit .ensures)) ∙ not-true _ ((c .if2 .taken))) (rw ((c .before .before .byte-at2 .ensures)) d))
+returns-2 c = number-ends (c .before .before .before .before .before .before .before .before .args .text .now) (c .before .before .before .before .before .before .before .before .args .at) (c .before .before .before .loop .number) (c .before .before .before .loop .inv) (λ d. no-digit-test (c .before .before .byte-at2 .result) (sym (c .before .is-digit .ensures) ∙ not-true _ (c .if2 .taken)) (rw (c .before .before .byte-at2 .ensures) d))
 
--- src/numbers.rt:91:37
 digit-of-requires-2 : tie.Need-digit-of-requires-2 Inv-loop μ-loop
-digit-of-requires-2 c κs = digit-test ((c .before .before .byte-at2 .result)) (sym ((c .before .is-digit .ensures)) ∙ not-false _ ((c .if2 .left)))
+digit-of-requires-2 c κs = digit-test (c .before .before .byte-at2 .result) (sym (c .before .is-digit .ensures) ∙ not-false _ (c .if2 .left))
 
--- src/numbers.rt:91:13
 pushed-requires : tie.Need-pushed-requires Inv-loop μ-loop
-pushed-requires c κs = (omega (arith, (c .digit-of2 .ensures), digit-test ((c .before .before .before .byte-at2 .result)) (sym ((c .before .before .is-digit .ensures)) ∙ not-false _ ((c .before .if2 .left)))), omega (arith, (c .before .before .before .before .loop .inv .inside), (c .before .before .before .before .before .before .before .before .before .good .0 .1)))
+pushed-requires c κs = (omega (arith, (c .digit-of2 .ensures), digit-test (c .before .before .before .byte-at2 .result) (sym (c .before .before .is-digit .ensures) ∙ not-false _ (c .before .if2 .left))), omega (arith, (c .before .before .before .before .loop .inv .inside), (c .before .before .before .before .before .before .before .before .before .good .0 .1)))
 
--- src/numbers.rt:86:5
 loop-less : tie.Need-loop-less Inv-loop μ-loop
-loop-less c = omega (arith, (c .pushed .ensures .onward), (c .before .digit-of2 .ensures), (c .before .before .before .before .byte-at2 .ensures), inside ((c .before .before .before .before .before .before .before .before .before .before .args .text .now)) ((c .before .before .before .before .before .loop .number .at)) (omega (arith, (c .before .digit-of2 .ensures), (c .before .before .before .before .byte-at2 .ensures))))
+loop-less c = omega (arith, (c .pushed .ensures .onward), (c .before .digit-of2 .ensures), (c .before .before .before .before .byte-at2 .ensures), inside (c .before .before .before .before .before .before .before .before .before .before .args .text .now) (c .before .before .before .before .before .loop .number .at) (omega (arith, (c .before .digit-of2 .ensures), (c .before .before .before .before .byte-at2 .ensures))))
 
--- src/numbers.rt:86:5
 loop-again : tie.Need-loop-again Inv-loop μ-loop
-loop-again c = number-goes-on ((c .before .before .before .before .before .before .before .before .before .before .args .text .now)) ((c .before .before .before .before .before .before .before .before .before .before .args .at)) ((c .before .before .before .before .before .loop .number)) ((c .pushed .result)) ((c .before .digit-of2 .result)) ((c .before .before .before .before .before .loop .inv)) ((c .before .digit-of2 .ensures) ∙ (c .before .before .before .before .byte-at2 .ensures)) (omega (arith, (c .before .digit-of2 .ensures), digit-test ((c .before .before .before .before .byte-at2 .result)) (sym ((c .before .before .before .is-digit .ensures)) ∙ not-false _ ((c .before .before .if2 .left))))) ((c .pushed .ensures))
+loop-again c = number-goes-on (c .before .before .before .before .before .before .before .before .before .before .args .text .now) (c .before .before .before .before .before .before .before .before .before .before .args .at) (c .before .before .before .before .before .loop .number) (c .pushed .result) (c .before .digit-of2 .result) (c .before .before .before .before .before .loop .inv) ((c .before .digit-of2 .ensures) ∙ (c .before .before .before .before .byte-at2 .ensures)) (omega (arith, (c .before .digit-of2 .ensures), digit-test (c .before .before .before .before .byte-at2 .result) (sym (c .before .before .before .is-digit .ensures) ∙ not-false _ (c .before .before .if2 .left)))) (c .pushed .ensures)
 
 pub read-number-spec : {M : Type 1} → statement M
 read-number-spec =

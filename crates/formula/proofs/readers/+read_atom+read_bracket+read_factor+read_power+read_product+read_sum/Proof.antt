@@ -1,21 +1,20 @@
-use mathlib.Core.Bool.{_||_}
-use lib.Dec.{eqb}
-use Rattle.formula.specs.declared.readers.Found.{Found}
-use Rattle.formula.proofs.Ways.{got-odd, got-few, product-place, sum-place}
-use mathlib.Core.Bool.{true, false}
-use mathlib.Core.Path.{_≡_, _∙_, sym, ap, ap₂, refl}
+-- The readers meet their contracts together: the bytes left fall at each call, and at the same place the level does.
+-- Each return is one way of proofs/Ways.antt; the loops carry the product or the sum so far.
+use mathlib.Core.Bool.{_||_, false}
+use mathlib.Core.Path.{_≡_, _∙_, sym, ap, refl}
+use Prim.Native.Nat.{min, ℕ, _+_, _-_, _*_, _<_}
 use native.Mathlib.Omega.{arith}
-use borrow.Author.Tests.{not-true, not-false}
-use Prim.Native.Nat.{min}
-use Rattle.formula.specs.Readers.{finding, faultCode, noFault, put}
-use Rattle.formula.proofs.Steps.{inside}
-use Rattle.formula.proofs.Readings.{digit-test, no-digit-test}
-use Rattle.formula.proofs.Ways.{got, atom-x, atom-number, atom-bracket, no-atom, power-lost, power-plain, power-literal, no-exponent, raise-lost, power-raise, factor-lost, factor-got, ProductSoFar, product-onward, product-starts, product-lost, product-joined, product-ends, product-goes-on, SumSoFar, sum-onward, sum-starts, sum-lost, sum-joined, sum-ends, sum-goes-on, bracket-lost, bracket-open, bracket-closed, parity-small}
-use borrow.Author.Needs.{needs}
-use Prim.Native.Nat.{ℕ, _+_, _-_, _*_, _<_}
+use lib.Dec.{eqb}
 use lib.ListN.{length}
+use borrow.Author.Tests.{not-true, not-false}
+use borrow.Author.Needs.{needs}
 use borrow.Fn.Kinds.{In}
 use borrow.Fn.PlainCycle.{Measures, is, falls, and}
+use Rattle.formula.specs.declared.readers.Found.{Found}
+use Rattle.formula.proofs.Ways.{got-odd, got-few, product-place, sum-place, got, atom-x, atom-number, atom-bracket, no-atom, power-lost, power-plain, power-literal, no-exponent, raise-lost, power-raise, factor-lost, factor-got, ProductSoFar, product-onward, product-starts, product-lost, product-joined, product-ends, product-goes-on, SumSoFar, sum-onward, sum-starts, sum-lost, sum-joined, sum-ends, sum-goes-on, bracket-lost, bracket-open, bracket-closed}
+use Rattle.formula.specs.Readers.{finding}
+use Rattle.formula.proofs.Steps.{inside}
+use Rattle.formula.proofs.Readings.{digit-test, no-digit-test}
 use Rattle.formula.proofs.readers.read_atom.Reads as read-atom
 use Rattle.formula.proofs.readers.read_atom.Kinds as read-atom-kinds
 use Rattle.formula.proofs.readers.+read_atom+read_bracket+read_factor+read_power+read_product+read_sum.Lts-read_atom as read-atom-lts
@@ -52,9 +51,10 @@ use Rattle.formula.proofs.readers.number_fault.Reads as number-fault-re
 use Rattle.formula.proofs.readers.starting.Reads as starting-reads
 use Rattle.formula.proofs.readers.stopped.Reads as stopped-reads
 use Rattle.formula.proofs.readers.+read_atom+read_bracket+read_factor+read_power+read_product+read_sum.{
+use Rattle.formula.proofs.readers.+read_atom+read_bracket+read_factor+read_power+read_product+read_sum.Tie.{
+
   statement,
 }
-use Rattle.formula.proofs.readers.+read_atom+read_bracket+read_factor+read_power+read_product+read_sum.Tie.{
   close,
 }
 
@@ -130,7 +130,6 @@ abbrev read-sum-below : ℕ → In 2 read-sum-kinds.ps
 read-sum-below t =
     and 2 read-sum-kinds.ps (falls 2 read-sum-kinds.ps _<_ μ-read-sum t) read-sum.Pre
 
--- src/readers.rt:286:9
 read-atom-byte-at-requires : (t : ℕ) → read-atom-lts.Need-byte-at-requires (
   byte-at-reads.Asked,
   byte-at-reads.Learnt,
@@ -151,7 +150,6 @@ read-atom-byte-at-requires : (t : ℕ) → read-atom-lts.Need-byte-at-requires (
 ) (read-atom-at t) read-atom.Post
 read-atom-byte-at-requires t c κs = search needs
 
--- src/readers.rt:288:9
 read-atom-read-bracket-requires : (t : ℕ) → read-atom-lts.Need-read-bracket-requires (
   byte-at-reads.Asked,
   byte-at-reads.Learnt,
@@ -170,9 +168,8 @@ read-atom-read-bracket-requires : (t : ℕ) → read-atom-lts.Need-read-bracket-
   lesser-reads.Asked,
   lesser-reads.Learnt,
 ) (read-atom-at t) read-atom.Post
-read-atom-read-bracket-requires t c κs = (omega (arith, (c .before .before .before .before .before .pre .0)), (inside ((c .before .before .before .before .before .args .text .now)) ((c .before .before .before .before .before .args .at)) (omega (arith, (c .before .before .byte-at .ensures), (c .before .if1 .taken))), (c .before .before .before .before .before .pre .1 .1 .0)))
+read-atom-read-bracket-requires t c κs = (omega (arith, (c .before .before .before .before .before .pre .0)), (inside (c .before .before .before .before .before .args .text .now) (c .before .before .before .before .before .args .at) (omega (arith, (c .before .before .byte-at .ensures), (c .before .if1 .taken))), (c .before .before .before .before .before .pre .1 .1 .0)))
 
--- src/readers.rt:288:9
 read-atom-same-length : (t : ℕ) → read-atom-lts.Need-same-length (
   byte-at-reads.Asked,
   byte-at-reads.Learnt,
@@ -193,7 +190,6 @@ read-atom-same-length : (t : ℕ) → read-atom-lts.Need-same-length (
 ) (read-atom-at t) read-atom.Post
 read-atom-same-length t c = search needs
 
--- src/readers.rt:288:9
 read-atom-returns : (t : ℕ) → read-atom-lts.Need-returns (
   byte-at-reads.Asked,
   byte-at-reads.Learnt,
@@ -212,9 +208,8 @@ read-atom-returns : (t : ℕ) → read-atom-lts.Need-returns (
   lesser-reads.Asked,
   lesser-reads.Learnt,
 ) (read-atom-at t) read-atom.Post
-read-atom-returns t c = atom-bracket ((c .before .before .before .before .before .before .before .before .args .text .now)) ((c .before .before .before .before .before .before .before .before .args .at)) ((c .before .before .before .before .before .before .before .before .args .nodes)) ((c .before .before .before .before .before .before .before .before .args .fault)) _ _ _ (sym ((c .before .before .before .before .before .byte-at .ensures)) ∙ (c .before .before .before .before .if1 .taken)) ((c .before .before .read-bracket .ensures))
+read-atom-returns t c = atom-bracket (c .before .before .before .before .before .before .before .before .args .text .now) (c .before .before .before .before .before .before .before .before .args .at) (c .before .before .before .before .before .before .before .before .args .nodes) (c .before .before .before .before .before .before .before .before .args .fault) _ _ _ (sym (c .before .before .before .before .before .byte-at .ensures) ∙ (c .before .before .before .before .if1 .taken)) (c .before .before .read-bracket .ensures)
 
--- src/readers.rt:291:43
 read-atom-add-noted : (t : ℕ) → read-atom-lts.Need-add-noted (
   byte-at-reads.Asked,
   byte-at-reads.Learnt,
@@ -235,7 +230,6 @@ read-atom-add-noted : (t : ℕ) → read-atom-lts.Need-add-noted (
 ) (read-atom-at t) read-atom.Post
 read-atom-add-noted t c = omega (arith, (c .before .before .before .before .before .before .pre .1 .0), (c .before .before .before .before .before .before .good .0 .0))
 
--- src/readers.rt:291:9
 read-atom-noted-requires : (t : ℕ) → read-atom-lts.Need-noted-requires (
   byte-at-reads.Asked,
   byte-at-reads.Learnt,
@@ -256,7 +250,6 @@ read-atom-noted-requires : (t : ℕ) → read-atom-lts.Need-noted-requires (
 ) (read-atom-at t) read-atom.Post
 read-atom-noted-requires t c κs = omega (arith, (c .before .before .before .before .before .before .pre .1 .0), (c .before .before .before .before .before .before .pre .1 .1 .0), (c .before .before .before .before .before .before .good .0 .1))
 
--- src/readers.rt:291:9
 read-atom-same-length-2 : (t : ℕ) → read-atom-lts.Need-same-length-2 (
   byte-at-reads.Asked,
   byte-at-reads.Learnt,
@@ -277,7 +270,6 @@ read-atom-same-length-2 : (t : ℕ) → read-atom-lts.Need-same-length-2 (
 ) (read-atom-at t) read-atom.Post
 read-atom-same-length-2 t c = search needs
 
--- src/readers.rt:291:9
 read-atom-returns-2 : (t : ℕ) → read-atom-lts.Need-returns-2 (
   byte-at-reads.Asked,
   byte-at-reads.Learnt,
@@ -296,9 +288,8 @@ read-atom-returns-2 : (t : ℕ) → read-atom-lts.Need-returns-2 (
   lesser-reads.Asked,
   lesser-reads.Learnt,
 ) (read-atom-at t) read-atom.Post
-read-atom-returns-2 t c = atom-x ((c .before .before .before .before .before .before .before .before .before .args .text .now)) ((c .before .before .before .before .before .before .before .before .before .args .at)) ((c .before .before .before .before .before .before .before .before .before .args .nodes)) ((c .before .before .before .before .before .before .before .before .before .args .fault)) _ _ _ (sym ((c .before .before .before .before .before .before .byte-at .ensures)) ∙ (c .before .before .before .before .if2 .taken)) ((c .before .before .noted .ensures .0)) ((c .before .before .noted .ensures .1))
+read-atom-returns-2 t c = atom-x (c .before .before .before .before .before .before .before .before .before .args .text .now) (c .before .before .before .before .before .before .before .before .before .args .at) (c .before .before .before .before .before .before .before .before .before .args .nodes) (c .before .before .before .before .before .before .before .before .before .args .fault) _ _ _ (sym (c .before .before .before .before .before .before .byte-at .ensures) ∙ (c .before .before .before .before .if2 .taken)) (c .before .before .noted .ensures .0) (c .before .before .noted .ensures .1)
 
--- src/readers.rt:293:9
 read-atom-is-digit-requires : (t : ℕ) → read-atom-lts.Need-is-digit-requires (
   byte-at-reads.Asked,
   byte-at-reads.Learnt,
@@ -319,7 +310,6 @@ read-atom-is-digit-requires : (t : ℕ) → read-atom-lts.Need-is-digit-requires
 ) (read-atom-at t) read-atom.Post
 read-atom-is-digit-requires t c κs = search needs
 
--- src/readers.rt:294:9
 read-atom-stopped-requires : (t : ℕ) → read-atom-lts.Need-stopped-requires (
   byte-at-reads.Asked,
   byte-at-reads.Learnt,
@@ -340,7 +330,6 @@ read-atom-stopped-requires : (t : ℕ) → read-atom-lts.Need-stopped-requires (
 ) (read-atom-at t) read-atom.Post
 read-atom-stopped-requires t c κs = search needs
 
--- src/readers.rt:294:9
 read-atom-returns-3 : (t : ℕ) → read-atom-lts.Need-returns-3 (
   byte-at-reads.Asked,
   byte-at-reads.Learnt,
@@ -359,9 +348,8 @@ read-atom-returns-3 : (t : ℕ) → read-atom-lts.Need-returns-3 (
   lesser-reads.Asked,
   lesser-reads.Learnt,
 ) (read-atom-at t) read-atom.Post
-read-atom-returns-3 t c = no-atom ((c .before .before .before .before .before .before .before .before .args .text .now)) ((c .before .before .before .before .before .before .before .before .args .at)) ((c .before .before .before .before .before .before .before .before .args .nodes)) ((c .before .before .before .before .before .before .before .before .args .fault)) _ _ _ ((c .before .before .before .before .before .before .before .before .pre .1 .1 .1)) (λ e. (c .before .before .before .before .if1 .left) ((c .before .before .before .before .before .byte-at .ensures) ∙ e)) (λ e. (c .before .before .before .if2 .left) ((c .before .before .before .before .before .byte-at .ensures) ∙ e)) (λ d. no-digit-test ((c .before .before .before .before .before .byte-at .result)) (sym ((c .before .before .is-digit .ensures)) ∙ not-true _ ((c .before .if3 .taken))) (rw ((c .before .before .before .before .before .byte-at .ensures)) d)) ((c .stopped .ensures))
+read-atom-returns-3 t c = no-atom (c .before .before .before .before .before .before .before .before .args .text .now) (c .before .before .before .before .before .before .before .before .args .at) (c .before .before .before .before .before .before .before .before .args .nodes) (c .before .before .before .before .before .before .before .before .args .fault) _ _ _ (c .before .before .before .before .before .before .before .before .pre .1 .1 .1) (λ e. (c .before .before .before .before .if1 .left) ((c .before .before .before .before .before .byte-at .ensures) ∙ e)) (λ e. (c .before .before .before .if2 .left) ((c .before .before .before .before .before .byte-at .ensures) ∙ e)) (λ d. no-digit-test (c .before .before .before .before .before .byte-at .result) (sym (c .before .before .is-digit .ensures) ∙ not-true _ (c .before .if3 .taken)) (rw (c .before .before .before .before .before .byte-at .ensures) d)) (c .stopped .ensures)
 
--- src/readers.rt:296:9
 read-atom-read-number-requires : (t : ℕ) → read-atom-lts.Need-read-number-requires (
   byte-at-reads.Asked,
   byte-at-reads.Learnt,
@@ -380,9 +368,8 @@ read-atom-read-number-requires : (t : ℕ) → read-atom-lts.Need-read-number-re
   lesser-reads.Asked,
   lesser-reads.Learnt,
 ) (read-atom-at t) read-atom.Post
-read-atom-read-number-requires t c κs = rw (← (c .before .before .before .before .byte-at .ensures)) (digit-test ((c .before .before .before .before .byte-at .result)) (sym ((c .before .is-digit .ensures)) ∙ not-false _ ((c .if3 .left))))
+read-atom-read-number-requires t c κs = rw (← (c .before .before .before .before .byte-at .ensures)) (digit-test (c .before .before .before .before .byte-at .result) (sym (c .before .is-digit .ensures) ∙ not-false _ (c .if3 .left)))
 
--- src/readers.rt:297:31
 read-atom-number-fault-requires : (t : ℕ) → read-atom-lts.Need-number-fault-requires (
   byte-at-reads.Asked,
   byte-at-reads.Learnt,
@@ -403,7 +390,6 @@ read-atom-number-fault-requires : (t : ℕ) → read-atom-lts.Need-number-fault-
 ) (read-atom-at t) read-atom.Post
 read-atom-number-fault-requires t c κs = omega (arith, (c .before .before .before .before .before .before .before .before .pre .1 .0), (c .before .before .before .before .before .before .before .before .good .0 .1))
 
--- src/readers.rt:297:9
 read-atom-lesser-requires : (t : ℕ) → read-atom-lts.Need-lesser-requires (
   byte-at-reads.Asked,
   byte-at-reads.Learnt,
@@ -424,7 +410,6 @@ read-atom-lesser-requires : (t : ℕ) → read-atom-lts.Need-lesser-requires (
 ) (read-atom-at t) read-atom.Post
 read-atom-lesser-requires t c κs = search needs
 
--- src/readers.rt:298:5
 read-atom-noted-requires-2 : (t : ℕ) → read-atom-lts.Need-noted-requires-2 (
   byte-at-reads.Asked,
   byte-at-reads.Learnt,
@@ -445,7 +430,6 @@ read-atom-noted-requires-2 : (t : ℕ) → read-atom-lts.Need-noted-requires-2 (
 ) (read-atom-at t) read-atom.Post
 read-atom-noted-requires-2 t c κs = omega (arith, (c .before .before .before .before .before .before .before .before .before .before .before .pre .1 .0), (c .before .before .before .before .before .before .before .before .before .before .before .pre .1 .1 .0), (c .before .before .before .before .before .before .before .before .before .before .before .good .0 .1))
 
--- src/readers.rt:280:1
 read-atom-same-length-3 : (t : ℕ) → read-atom-lts.Need-same-length-3 (
   byte-at-reads.Asked,
   byte-at-reads.Learnt,
@@ -466,7 +450,6 @@ read-atom-same-length-3 : (t : ℕ) → read-atom-lts.Need-same-length-3 (
 ) (read-atom-at t) read-atom.Post
 read-atom-same-length-3 t c = search needs
 
--- src/readers.rt:280:1
 read-atom-returns-4 : (t : ℕ) → read-atom-lts.Need-returns-4 (
   byte-at-reads.Asked,
   byte-at-reads.Learnt,
@@ -485,9 +468,8 @@ read-atom-returns-4 : (t : ℕ) → read-atom-lts.Need-returns-4 (
   lesser-reads.Asked,
   lesser-reads.Learnt,
 ) (read-atom-at t) read-atom.Post
-read-atom-returns-4 t c = atom-number ((c .before .before .before .before .before .before .before .before .before .before .before .before .before .before .args .text .now)) ((c .before .before .before .before .before .before .before .before .before .before .before .before .before .before .args .at)) ((c .before .before .before .before .before .before .before .before .before .before .before .before .before .before .args .nodes)) ((c .before .before .before .before .before .before .before .before .before .before .before .before .before .before .args .fault)) _ _ _ ((c .before .before .before .before .before .before .read-number .result)) ((c .before .before .before .before .before .before .read-number .ensures)) ((c .before .before .noted2 .ensures .0) ∙ ap (λ g. finding false ((c .before .before .before .before .before .before .read-number .result .odd)) ((c .before .before .before .before .before .before .read-number .result .at)) ((c .before .before .before .before .before .before .before .before .before .before .before .before .before .before .args .nodes) + 1) g) ((c .before .before .before .before .lesser .ensures) ∙ ap (λ g. min ((c .before .before .before .before .before .before .before .before .before .before .before .before .before .before .args .fault)) g) ((c .before .before .before .before .before .number-fault .ensures)))) ((c .before .before .noted2 .ensures .1))
+read-atom-returns-4 t c = atom-number (c .before .before .before .before .before .before .before .before .before .before .before .before .before .before .args .text .now) (c .before .before .before .before .before .before .before .before .before .before .before .before .before .before .args .at) (c .before .before .before .before .before .before .before .before .before .before .before .before .before .before .args .nodes) (c .before .before .before .before .before .before .before .before .before .before .before .before .before .before .args .fault) _ _ _ (c .before .before .before .before .before .before .read-number .result) (c .before .before .before .before .before .before .read-number .ensures) ((c .before .before .noted2 .ensures .0) ∙ ap (λ g. finding false (c .before .before .before .before .before .before .read-number .result .odd) (c .before .before .before .before .before .before .read-number .result .at) ((c .before .before .before .before .before .before .before .before .before .before .before .before .before .before .args .nodes) + 1) g) ((c .before .before .before .before .lesser .ensures) ∙ ap (λ g. min (c .before .before .before .before .before .before .before .before .before .before .before .before .before .before .args .fault) g) (c .before .before .before .before .before .number-fault .ensures))) (c .before .before .noted2 .ensures .1)
 
--- src/readers.rt:261:36
 read-bracket-add-read-sum : (t : ℕ) → read-bracket-lts.Need-add-read-sum (
   read-sum-below t,
   read-sum.Post,
@@ -498,7 +480,6 @@ read-bracket-add-read-sum : (t : ℕ) → read-bracket-lts.Need-add-read-sum (
 ) (read-bracket-at t) read-bracket.Post
 read-bracket-add-read-sum t c = omega (arith, (c .before .before .before .pre .1 .0), (c .before .before .before .good .0 .0))
 
--- src/readers.rt:261:9
 read-bracket-read-sum-requires : (t : ℕ) → read-bracket-lts.Need-read-sum-requires (
   read-sum-below t,
   read-sum.Post,
@@ -509,7 +490,6 @@ read-bracket-read-sum-requires : (t : ℕ) → read-bracket-lts.Need-read-sum-re
 ) (read-bracket-at t) read-bracket.Post
 read-bracket-read-sum-requires t c κs = (omega (arith, (c .before .before .before .pre .0), (c .before .before .before .pre .1 .0)), (omega (arith, (c .before .before .before .pre .1 .0)), omega (arith, (c .before .before .before .pre .1 .1))))
 
--- src/readers.rt:263:9
 read-bracket-same-length : (t : ℕ) → read-bracket-lts.Need-same-length (
   read-sum-below t,
   read-sum.Post,
@@ -520,7 +500,6 @@ read-bracket-same-length : (t : ℕ) → read-bracket-lts.Need-same-length (
 ) (read-bracket-at t) read-bracket.Post
 read-bracket-same-length t c = search needs
 
--- src/readers.rt:263:9
 read-bracket-returns : (t : ℕ) → read-bracket-lts.Need-returns (
   read-sum-below t,
   read-sum.Post,
@@ -529,9 +508,8 @@ read-bracket-returns : (t : ℕ) → read-bracket-lts.Need-returns (
   stopped-reads.Asked,
   stopped-reads.Learnt,
 ) (read-bracket-at t) read-bracket.Post
-read-bracket-returns t c = bracket-lost ((c .before .before .before .before .before .before .before .before .args .text .now)) ((c .before .before .before .before .before .before .before .before .args .at)) ((c .before .before .before .before .before .before .before .before .args .nodes)) ((c .before .before .before .before .before .before .before .before .args .fault)) _ _ _ ((c .before .before .before .before .read-sum .ensures)) (not-true _ ((c .if1 .taken)))
+read-bracket-returns t c = bracket-lost (c .before .before .before .before .before .before .before .before .args .text .now) (c .before .before .before .before .before .before .before .before .args .at) (c .before .before .before .before .before .before .before .before .args .nodes) (c .before .before .before .before .before .before .before .before .args .fault) _ _ _ (c .before .before .before .before .read-sum .ensures) (not-true _ (c .if1 .taken))
 
--- src/readers.rt:266:8
 read-bracket-byte-at-requires : (t : ℕ) → read-bracket-lts.Need-byte-at-requires (
   read-sum-below t,
   read-sum.Post,
@@ -542,7 +520,6 @@ read-bracket-byte-at-requires : (t : ℕ) → read-bracket-lts.Need-byte-at-requ
 ) (read-bracket-at t) read-bracket.Post
 read-bracket-byte-at-requires t c κs = search needs
 
--- src/readers.rt:267:9
 read-bracket-stopped-requires : (t : ℕ) → read-bracket-lts.Need-stopped-requires (
   read-sum-below t,
   read-sum.Post,
@@ -553,7 +530,6 @@ read-bracket-stopped-requires : (t : ℕ) → read-bracket-lts.Need-stopped-requ
 ) (read-bracket-at t) read-bracket.Post
 read-bracket-stopped-requires t c κs = search needs
 
--- src/readers.rt:267:9
 read-bracket-same-length-2 : (t : ℕ) → read-bracket-lts.Need-same-length-2 (
   read-sum-below t,
   read-sum.Post,
@@ -564,7 +540,6 @@ read-bracket-same-length-2 : (t : ℕ) → read-bracket-lts.Need-same-length-2 (
 ) (read-bracket-at t) read-bracket.Post
 read-bracket-same-length-2 t c = search needs
 
--- src/readers.rt:267:9
 read-bracket-returns-2 : (t : ℕ) → read-bracket-lts.Need-returns-2 (
   read-sum-below t,
   read-sum.Post,
@@ -573,9 +548,8 @@ read-bracket-returns-2 : (t : ℕ) → read-bracket-lts.Need-returns-2 (
   stopped-reads.Asked,
   stopped-reads.Learnt,
 ) (read-bracket-at t) read-bracket.Post
-read-bracket-returns-2 t c = bracket-open ((c .before .before .before .before .before .before .before .before .before .before .before .args .text .now)) ((c .before .before .before .before .before .before .before .before .before .before .before .args .at)) ((c .before .before .before .before .before .before .before .before .before .before .before .args .nodes)) ((c .before .before .before .before .before .before .before .before .before .before .before .args .fault)) _ ((c .before .before .before .before .before .before .before .read-sum .result)) _ (got ((c .before .before .before .before .before .before .before .read-sum .ensures)) (not-false _ ((c .before .before .before .if1 .left)))) (λ e. (c .before .if2 .taken) ((c .before .before .byte-at .ensures) ∙ e)) _ ((c .stopped .ensures))
+read-bracket-returns-2 t c = bracket-open (c .before .before .before .before .before .before .before .before .before .before .before .args .text .now) (c .before .before .before .before .before .before .before .before .before .before .before .args .at) (c .before .before .before .before .before .before .before .before .before .before .before .args .nodes) (c .before .before .before .before .before .before .before .before .before .before .before .args .fault) _ (c .before .before .before .before .before .before .before .read-sum .result) _ (got (c .before .before .before .before .before .before .before .read-sum .ensures) (not-false _ (c .before .before .before .if1 .left))) (λ e. (c .before .if2 .taken) ((c .before .before .byte-at .ensures) ∙ e)) _ (c .stopped .ensures)
 
--- src/readers.rt:273:13
 read-bracket-add-t10 : (t : ℕ) → read-bracket-lts.Need-add-t10 (
   read-sum-below t,
   read-sum.Post,
@@ -584,9 +558,8 @@ read-bracket-add-t10 : (t : ℕ) → read-bracket-lts.Need-add-t10 (
   stopped-reads.Asked,
   stopped-reads.Learnt,
 ) (read-bracket-at t) read-bracket.Post
-read-bracket-add-t10 t c = omega (arith, (c .before .before .before .before .before .before .before .before .before .before .good .0 .0), got ((c .before .before .before .before .before .before .read-sum .ensures)) (not-false _ ((c .before .before .if1 .left))) .inside)
+read-bracket-add-t10 t c = omega (arith, (c .before .before .before .before .before .before .before .before .before .before .good .0 .0), got (c .before .before .before .before .before .before .read-sum .ensures) (not-false _ (c .before .before .if1 .left)) .inside)
 
--- src/readers.rt:256:1
 read-bracket-same-length-3 : (t : ℕ) → read-bracket-lts.Need-same-length-3 (
   read-sum-below t,
   read-sum.Post,
@@ -597,7 +570,6 @@ read-bracket-same-length-3 : (t : ℕ) → read-bracket-lts.Need-same-length-3 (
 ) (read-bracket-at t) read-bracket.Post
 read-bracket-same-length-3 t c = search needs
 
--- src/readers.rt:256:1
 read-bracket-returns-3 : (t : ℕ) → read-bracket-lts.Need-returns-3 (
   read-sum-below t,
   read-sum.Post,
@@ -606,9 +578,8 @@ read-bracket-returns-3 : (t : ℕ) → read-bracket-lts.Need-returns-3 (
   stopped-reads.Asked,
   stopped-reads.Learnt,
 ) (read-bracket-at t) read-bracket.Post
-read-bracket-returns-3 t c = bracket-closed ((c .before .before .before .before .before .before .before .before .before .before .args .text .now)) ((c .before .before .before .before .before .before .before .before .before .before .args .at)) ((c .before .before .before .before .before .before .before .before .before .before .args .nodes)) ((c .before .before .before .before .before .before .before .before .before .before .args .fault)) _ ((c .before .before .before .before .before .before .read-sum .result)) _ (got ((c .before .before .before .before .before .before .read-sum .ensures)) (not-false _ ((c .before .before .if1 .left)))) (sym ((c .before .byte-at .ensures)) ∙ (c .if2 .left)) _ refl
+read-bracket-returns-3 t c = bracket-closed (c .before .before .before .before .before .before .before .before .before .before .args .text .now) (c .before .before .before .before .before .before .before .before .before .before .args .at) (c .before .before .before .before .before .before .before .before .before .before .args .nodes) (c .before .before .before .before .before .before .before .before .before .before .args .fault) _ (c .before .before .before .before .before .before .read-sum .result) _ (got (c .before .before .before .before .before .before .read-sum .ensures) (not-false _ (c .before .before .if1 .left))) (sym (c .before .byte-at .ensures) ∙ (c .if2 .left)) _ refl
 
--- src/readers.rt:339:9
 read-factor-after-minus-signs-requires : (t : ℕ) → read-factor-lts.Need-after-minus-signs-requires (
   after-minus-signs-reads.Asked,
   after-minus-signs-reads.Learnt,
@@ -619,7 +590,6 @@ read-factor-after-minus-signs-requires : (t : ℕ) → read-factor-lts.Need-afte
 ) (read-factor-at t) read-factor.Post
 read-factor-after-minus-signs-requires t c κs = search needs
 
--- src/readers.rt:340:9
 read-factor-read-power-requires : (t : ℕ) → read-factor-lts.Need-read-power-requires (
   after-minus-signs-reads.Asked,
   after-minus-signs-reads.Learnt,
@@ -630,7 +600,6 @@ read-factor-read-power-requires : (t : ℕ) → read-factor-lts.Need-read-power-
 ) (read-factor-at t) read-factor.Post
 read-factor-read-power-requires t c κs = search needs
 
--- src/readers.rt:342:9
 read-factor-same-length : (t : ℕ) → read-factor-lts.Need-same-length (
   after-minus-signs-reads.Asked,
   after-minus-signs-reads.Learnt,
@@ -641,7 +610,6 @@ read-factor-same-length : (t : ℕ) → read-factor-lts.Need-same-length (
 ) (read-factor-at t) read-factor.Post
 read-factor-same-length t c = search needs
 
--- src/readers.rt:342:9
 read-factor-returns : (t : ℕ) → read-factor-lts.Need-returns (
   after-minus-signs-reads.Asked,
   after-minus-signs-reads.Learnt,
@@ -650,9 +618,8 @@ read-factor-returns : (t : ℕ) → read-factor-lts.Need-returns (
   negated-reads.Asked,
   negated-reads.Learnt,
 ) (read-factor-at t) read-factor.Post
-read-factor-returns t c = factor-lost ((c .before .before .before .before .before .before .before .before .before .args .text .now)) ((c .before .before .before .before .before .before .before .before .before .args .at)) ((c .before .before .before .before .before .before .after-minus-signs .result)) ((c .before .before .before .before .before .before .before .before .before .args .nodes)) ((c .before .before .before .before .before .before .before .before .before .args .fault)) _ _ _ ((c .before .before .before .before .before .before .after-minus-signs .ensures)) ((c .before .before .before .before .read-power .ensures)) (not-true _ ((c .if1 .taken)))
+read-factor-returns t c = factor-lost (c .before .before .before .before .before .before .before .before .before .args .text .now) (c .before .before .before .before .before .before .before .before .before .args .at) (c .before .before .before .before .before .before .after-minus-signs .result) (c .before .before .before .before .before .before .before .before .before .args .nodes) (c .before .before .before .before .before .before .before .before .before .args .fault) _ _ _ (c .before .before .before .before .before .before .after-minus-signs .ensures) (c .before .before .before .before .read-power .ensures) (not-true _ (c .if1 .taken))
 
--- src/readers.rt:344:26
 read-factor-sub-negated : (t : ℕ) → read-factor-lts.Need-sub-negated (
   after-minus-signs-reads.Asked,
   after-minus-signs-reads.Learnt,
@@ -663,7 +630,6 @@ read-factor-sub-negated : (t : ℕ) → read-factor-lts.Need-sub-negated (
 ) (read-factor-at t) read-factor.Post
 read-factor-sub-negated t c = search needs
 
--- src/readers.rt:344:5
 read-factor-negated-requires : (t : ℕ) → read-factor-lts.Need-negated-requires (
   after-minus-signs-reads.Asked,
   after-minus-signs-reads.Learnt,
@@ -672,9 +638,8 @@ read-factor-negated-requires : (t : ℕ) → read-factor-lts.Need-negated-requir
   negated-reads.Asked,
   negated-reads.Learnt,
 ) (read-factor-at t) read-factor.Post
-read-factor-negated-requires t c κs = let power = got ((c .before .before .before .before .before .read-power .ensures)) (not-false _ ((c .before .if1 .left))) in (not-false _ ((c .before .if1 .left)), omega (arith, power .counted, power .room, power .inside, (c .before .before .before .before .before .before .before .after-minus-signs .ensures .onward), (c .before .before .before .before .before .before .before .before .before .before .pre .1 .1), (c .before .before .before .before .before .before .before .before .before .before .good .0 .1)))
+read-factor-negated-requires t c κs = let power = got (c .before .before .before .before .before .read-power .ensures) (not-false _ (c .before .if1 .left)) in (not-false _ (c .before .if1 .left), omega (arith, power .counted, power .room, power .inside, (c .before .before .before .before .before .before .before .after-minus-signs .ensures .onward), (c .before .before .before .before .before .before .before .before .before .before .pre .1 .1), (c .before .before .before .before .before .before .before .before .before .before .good .0 .1)))
 
--- src/readers.rt:334:1
 read-factor-same-length-2 : (t : ℕ) → read-factor-lts.Need-same-length-2 (
   after-minus-signs-reads.Asked,
   after-minus-signs-reads.Learnt,
@@ -685,7 +650,6 @@ read-factor-same-length-2 : (t : ℕ) → read-factor-lts.Need-same-length-2 (
 ) (read-factor-at t) read-factor.Post
 read-factor-same-length-2 t c = search needs
 
--- src/readers.rt:334:1
 read-factor-returns-2 : (t : ℕ) → read-factor-lts.Need-returns-2 (
   after-minus-signs-reads.Asked,
   after-minus-signs-reads.Learnt,
@@ -694,9 +658,8 @@ read-factor-returns-2 : (t : ℕ) → read-factor-lts.Need-returns-2 (
   negated-reads.Asked,
   negated-reads.Learnt,
 ) (read-factor-at t) read-factor.Post
-read-factor-returns-2 t c = factor-got ((c .before .before .before .before .before .before .before .before .before .before .before .before .before .args .text .now)) ((c .before .before .before .before .before .before .before .before .before .before .before .before .before .args .at)) ((c .before .before .before .before .before .before .before .before .before .before .after-minus-signs .result)) ((c .before .before .before .before .before .before .before .before .before .before .before .before .before .args .nodes)) ((c .before .before .before .before .before .before .before .before .before .before .before .before .before .args .fault)) _ _ _ ((c .before .before .before .before .before .before .before .before .before .before .after-minus-signs .ensures)) ((c .before .before .before .before .before .before .before .before .read-power .ensures)) (not-false _ ((c .before .before .before .before .if1 .left))) _ _ ((c .before .before .negated .ensures .0)) ((c .before .before .negated .ensures .1))
+read-factor-returns-2 t c = factor-got (c .before .before .before .before .before .before .before .before .before .before .before .before .before .args .text .now) (c .before .before .before .before .before .before .before .before .before .before .before .before .before .args .at) (c .before .before .before .before .before .before .before .before .before .before .after-minus-signs .result) (c .before .before .before .before .before .before .before .before .before .before .before .before .before .args .nodes) (c .before .before .before .before .before .before .before .before .before .before .before .before .before .args .fault) _ _ _ (c .before .before .before .before .before .before .before .before .before .before .after-minus-signs .ensures) (c .before .before .before .before .before .before .before .before .read-power .ensures) (not-false _ (c .before .before .before .before .if1 .left)) _ _ (c .before .before .negated .ensures .0) (c .before .before .negated .ensures .1)
 
--- src/readers.rt:308:9
 read-power-read-atom-requires : (t : ℕ) → read-power-lts.Need-read-atom-requires (
   read-atom-below t,
   read-atom.Post,
@@ -723,7 +686,6 @@ read-power-read-atom-requires : (t : ℕ) → read-power-lts.Need-read-atom-requ
 ) (read-power-at t) read-power.Post
 read-power-read-atom-requires t c κs = search needs
 
--- src/readers.rt:310:9
 read-power-same-length : (t : ℕ) → read-power-lts.Need-same-length (
   read-atom-below t,
   read-atom.Post,
@@ -750,7 +712,6 @@ read-power-same-length : (t : ℕ) → read-power-lts.Need-same-length (
 ) (read-power-at t) read-power.Post
 read-power-same-length t c = search needs
 
--- src/readers.rt:310:9
 read-power-returns : (t : ℕ) → read-power-lts.Need-returns (
   read-atom-below t,
   read-atom.Post,
@@ -775,9 +736,8 @@ read-power-returns : (t : ℕ) → read-power-lts.Need-returns (
   noted-reads.Asked,
   noted-reads.Learnt,
 ) (read-power-at t) read-power.Post
-read-power-returns t c = power-lost ((c .before .before .before .before .before .before .before .before .args .text .now)) ((c .before .before .before .before .before .before .before .before .args .at)) ((c .before .before .before .before .before .before .before .before .args .nodes)) ((c .before .before .before .before .before .before .before .before .args .fault)) _ _ _ ((c .before .before .before .before .read-atom .ensures)) (not-true _ ((c .if1 .taken)))
+read-power-returns t c = power-lost (c .before .before .before .before .before .before .before .before .args .text .now) (c .before .before .before .before .before .before .before .before .args .at) (c .before .before .before .before .before .before .before .before .args .nodes) (c .before .before .before .before .before .before .before .before .args .fault) _ _ _ (c .before .before .before .before .read-atom .ensures) (not-true _ (c .if1 .taken))
 
--- src/readers.rt:313:8
 read-power-byte-at-requires : (t : ℕ) → read-power-lts.Need-byte-at-requires (
   read-atom-below t,
   read-atom.Post,
@@ -804,7 +764,6 @@ read-power-byte-at-requires : (t : ℕ) → read-power-lts.Need-byte-at-requires
 ) (read-power-at t) read-power.Post
 read-power-byte-at-requires t c κs = search needs
 
--- src/readers.rt:314:9
 read-power-same-length-2 : (t : ℕ) → read-power-lts.Need-same-length-2 (
   read-atom-below t,
   read-atom.Post,
@@ -831,7 +790,6 @@ read-power-same-length-2 : (t : ℕ) → read-power-lts.Need-same-length-2 (
 ) (read-power-at t) read-power.Post
 read-power-same-length-2 t c = search needs
 
--- src/readers.rt:314:9
 read-power-returns-2 : (t : ℕ) → read-power-lts.Need-returns-2 (
   read-atom-below t,
   read-atom.Post,
@@ -856,9 +814,8 @@ read-power-returns-2 : (t : ℕ) → read-power-lts.Need-returns-2 (
   noted-reads.Asked,
   noted-reads.Learnt,
 ) (read-power-at t) read-power.Post
-read-power-returns-2 t c = power-plain ((c .before .before .before .before .before .before .before .before .before .before .args .text .now)) ((c .before .before .before .before .before .before .before .before .before .before .args .at)) ((c .before .before .before .before .before .before .before .before .before .before .args .nodes)) ((c .before .before .before .before .before .before .before .before .before .before .args .fault)) _ _ _ (got ((c .before .before .before .before .before .before .read-atom .ensures)) (not-false _ ((c .before .before .if1 .left)))) (λ e. (c .if2 .taken) ((c .before .byte-at .ensures) ∙ e))
+read-power-returns-2 t c = power-plain (c .before .before .before .before .before .before .before .before .before .before .args .text .now) (c .before .before .before .before .before .before .before .before .before .before .args .at) (c .before .before .before .before .before .before .before .before .before .before .args .nodes) (c .before .before .before .before .before .before .before .before .before .before .args .fault) _ _ _ (got (c .before .before .before .before .before .before .read-atom .ensures) (not-false _ (c .before .before .if1 .left))) (λ e. (c .if2 .taken) ((c .before .byte-at .ensures) ∙ e))
 
--- src/readers.rt:316:17
 read-power-add-place : (t : ℕ) → read-power-lts.Need-add-place (
   read-atom-below t,
   read-atom.Post,
@@ -883,9 +840,8 @@ read-power-add-place : (t : ℕ) → read-power-lts.Need-add-place (
   noted-reads.Asked,
   noted-reads.Learnt,
 ) (read-power-at t) read-power.Post
-read-power-add-place t c = omega (arith, got ((c .before .before .before .before .before .before .read-atom .ensures)) (not-false _ ((c .before .before .if1 .left))) .inside, (c .before .before .before .before .before .before .before .before .before .before .good .0 .0))
+read-power-add-place t c = omega (arith, got (c .before .before .before .before .before .before .read-atom .ensures) (not-false _ (c .before .before .if1 .left)) .inside, (c .before .before .before .before .before .before .before .before .before .before .good .0 .0))
 
--- src/readers.rt:317:9
 read-power-byte-at-requires-2 : (t : ℕ) → read-power-lts.Need-byte-at-requires-2 (
   read-atom-below t,
   read-atom.Post,
@@ -912,7 +868,6 @@ read-power-byte-at-requires-2 : (t : ℕ) → read-power-lts.Need-byte-at-requir
 ) (read-power-at t) read-power.Post
 read-power-byte-at-requires-2 t c κs = search needs
 
--- src/readers.rt:318:8
 read-power-is-digit-requires : (t : ℕ) → read-power-lts.Need-is-digit-requires (
   read-atom-below t,
   read-atom.Post,
@@ -939,7 +894,6 @@ read-power-is-digit-requires : (t : ℕ) → read-power-lts.Need-is-digit-requir
 ) (read-power-at t) read-power.Post
 read-power-is-digit-requires t c κs = search needs
 
--- src/readers.rt:319:13
 read-power-read-number-requires : (t : ℕ) → read-power-lts.Need-read-number-requires (
   read-atom-below t,
   read-atom.Post,
@@ -964,9 +918,8 @@ read-power-read-number-requires : (t : ℕ) → read-power-lts.Need-read-number-
   noted-reads.Asked,
   noted-reads.Learnt,
 ) (read-power-at t) read-power.Post
-read-power-read-number-requires t c κs = rw (← (c .before .before .byte-at2 .ensures)) (digit-test ((c .before .before .byte-at2 .result)) (sym ((c .before .is-digit .ensures)) ∙ (c .if3 .taken)))
+read-power-read-number-requires t c κs = rw (← (c .before .before .byte-at2 .ensures)) (digit-test (c .before .before .byte-at2 .result) (sym (c .before .is-digit .ensures) ∙ (c .if3 .taken)))
 
--- src/readers.rt:320:9
 read-power-literal-power-requires : (t : ℕ) → read-power-lts.Need-literal-power-requires (
   read-atom-below t,
   read-atom.Post,
@@ -991,9 +944,8 @@ read-power-literal-power-requires : (t : ℕ) → read-power-lts.Need-literal-po
   noted-reads.Asked,
   noted-reads.Learnt,
 ) (read-power-at t) read-power.Post
-read-power-literal-power-requires t c κs = let base = got ((c .before .before .before .before .before .before .before .before .before .before .before .read-atom .ensures)) (not-false _ ((c .before .before .before .before .before .before .before .if1 .left))) in (omega (arith, base .counted, base .room, base .inside, (c .before .before .before .before .before .before .before .before .before .before .before .before .before .before .before .pre .1 .1 .0), (c .before .before .before .before .before .before .before .before .before .before .before .before .before .before .before .good .0 .1)), omega (arith, inside ((c .before .before .before .before .before .before .before .before .before .before .before .before .before .before .before .args .text .now)) ((c .before .before .before .before .before .before .before .before .before .before .before .read-atom .result .at)) (omega (arith, (c .before .before .before .before .before .before .byte-at .ensures), (c .before .before .before .before .before .if2 .left))), (c .before .before .before .before .before .before .before .before .before .before .before .before .before .before .before .good .0 .1)))
+read-power-literal-power-requires t c κs = let base = got (c .before .before .before .before .before .before .before .before .before .before .before .read-atom .ensures) (not-false _ (c .before .before .before .before .before .before .before .if1 .left)) in (omega (arith, base .counted, base .room, base .inside, (c .before .before .before .before .before .before .before .before .before .before .before .before .before .before .before .pre .1 .1 .0), (c .before .before .before .before .before .before .before .before .before .before .before .before .before .before .before .good .0 .1)), omega (arith, inside (c .before .before .before .before .before .before .before .before .before .before .before .before .before .before .before .args .text .now) (c .before .before .before .before .before .before .before .before .before .before .before .read-atom .result .at) (omega (arith, (c .before .before .before .before .before .before .byte-at .ensures), (c .before .before .before .before .before .if2 .left))), (c .before .before .before .before .before .before .before .before .before .before .before .before .before .before .before .good .0 .1)))
 
--- src/readers.rt:320:9
 read-power-same-length-3 : (t : ℕ) → read-power-lts.Need-same-length-3 (
   read-atom-below t,
   read-atom.Post,
@@ -1020,7 +972,6 @@ read-power-same-length-3 : (t : ℕ) → read-power-lts.Need-same-length-3 (
 ) (read-power-at t) read-power.Post
 read-power-same-length-3 t c = search needs
 
--- src/readers.rt:320:9
 read-power-returns-3 : (t : ℕ) → read-power-lts.Need-returns-3 (
   read-atom-below t,
   read-atom.Post,
@@ -1045,9 +996,8 @@ read-power-returns-3 : (t : ℕ) → read-power-lts.Need-returns-3 (
   noted-reads.Asked,
   noted-reads.Learnt,
 ) (read-power-at t) read-power.Post
-read-power-returns-3 t c = power-literal ((c .before .before .before .before .before .before .before .before .before .before .before .before .before .before .before .before .before .before .args .text .now)) ((c .before .before .before .before .before .before .before .before .before .before .before .before .before .before .before .before .before .before .args .at)) ((c .before .before .before .before .before .before .before .before .before .before .before .before .before .before .before .before .before .before .args .nodes)) ((c .before .before .before .before .before .before .before .before .before .before .before .before .before .before .before .before .before .before .args .fault)) _ ((c .before .before .before .before .before .before .before .before .before .before .before .before .before .before .read-atom .result)) _ (got ((c .before .before .before .before .before .before .before .before .before .before .before .before .before .before .read-atom .ensures)) (not-false _ ((c .before .before .before .before .before .before .before .before .before .before .if1 .left)))) (sym ((c .before .before .before .before .before .before .before .before .before .byte-at .ensures)) ∙ (c .before .before .before .before .before .before .before .before .if2 .left)) ((c .before .before .before .before .read-number .result)) ((c .before .before .before .before .read-number .ensures)) _ _ ((c .before .before .literal-power .ensures .0)) ((c .before .before .literal-power .ensures .1))
+read-power-returns-3 t c = power-literal (c .before .before .before .before .before .before .before .before .before .before .before .before .before .before .before .before .before .before .args .text .now) (c .before .before .before .before .before .before .before .before .before .before .before .before .before .before .before .before .before .before .args .at) (c .before .before .before .before .before .before .before .before .before .before .before .before .before .before .before .before .before .before .args .nodes) (c .before .before .before .before .before .before .before .before .before .before .before .before .before .before .before .before .before .before .args .fault) _ (c .before .before .before .before .before .before .before .before .before .before .before .before .before .before .read-atom .result) _ (got (c .before .before .before .before .before .before .before .before .before .before .before .before .before .before .read-atom .ensures) (not-false _ (c .before .before .before .before .before .before .before .before .before .before .if1 .left))) (sym (c .before .before .before .before .before .before .before .before .before .byte-at .ensures) ∙ (c .before .before .before .before .before .before .before .before .if2 .left)) (c .before .before .before .before .read-number .result) (c .before .before .before .before .read-number .ensures) _ _ (c .before .before .literal-power .ensures .0) (c .before .before .literal-power .ensures .1)
 
--- src/readers.rt:323:9
 read-power-stopped-requires : (t : ℕ) → read-power-lts.Need-stopped-requires (
   read-atom-below t,
   read-atom.Post,
@@ -1074,7 +1024,6 @@ read-power-stopped-requires : (t : ℕ) → read-power-lts.Need-stopped-requires
 ) (read-power-at t) read-power.Post
 read-power-stopped-requires t c κs = search needs
 
--- src/readers.rt:323:9
 read-power-same-length-4 : (t : ℕ) → read-power-lts.Need-same-length-4 (
   read-atom-below t,
   read-atom.Post,
@@ -1101,7 +1050,6 @@ read-power-same-length-4 : (t : ℕ) → read-power-lts.Need-same-length-4 (
 ) (read-power-at t) read-power.Post
 read-power-same-length-4 t c = search needs
 
--- src/readers.rt:323:9
 read-power-returns-4 : (t : ℕ) → read-power-lts.Need-returns-4 (
   read-atom-below t,
   read-atom.Post,
@@ -1126,9 +1074,8 @@ read-power-returns-4 : (t : ℕ) → read-power-lts.Need-returns-4 (
   noted-reads.Asked,
   noted-reads.Learnt,
 ) (read-power-at t) read-power.Post
-read-power-returns-4 t c = no-exponent ((c .before .before .before .before .before .before .before .before .before .before .before .before .before .before .before .args .text .now)) ((c .before .before .before .before .before .before .before .before .before .before .before .before .before .before .before .args .at)) ((c .before .before .before .before .before .before .before .before .before .before .before .before .before .before .before .args .nodes)) ((c .before .before .before .before .before .before .before .before .before .before .before .before .before .before .before .args .fault)) _ ((c .before .before .before .before .before .before .before .before .before .before .before .read-atom .result)) _ (got ((c .before .before .before .before .before .before .before .before .before .before .before .read-atom .ensures)) (not-false _ ((c .before .before .before .before .before .before .before .if1 .left)))) (sym ((c .before .before .before .before .before .before .byte-at .ensures)) ∙ (c .before .before .before .before .before .if2 .left)) (λ e. (c .before .if4 .taken) ((c .before .before .before .before .byte-at2 .ensures) ∙ e)) (λ d. no-digit-test ((c .before .before .before .before .byte-at2 .result)) (sym ((c .before .before .before .is-digit .ensures)) ∙ (c .before .before .if3 .left)) (rw ((c .before .before .before .before .byte-at2 .ensures)) d)) _ _ ((c .stopped .ensures))
+read-power-returns-4 t c = no-exponent (c .before .before .before .before .before .before .before .before .before .before .before .before .before .before .before .args .text .now) (c .before .before .before .before .before .before .before .before .before .before .before .before .before .before .before .args .at) (c .before .before .before .before .before .before .before .before .before .before .before .before .before .before .before .args .nodes) (c .before .before .before .before .before .before .before .before .before .before .before .before .before .before .before .args .fault) _ (c .before .before .before .before .before .before .before .before .before .before .before .read-atom .result) _ (got (c .before .before .before .before .before .before .before .before .before .before .before .read-atom .ensures) (not-false _ (c .before .before .before .before .before .before .before .if1 .left))) (sym (c .before .before .before .before .before .before .byte-at .ensures) ∙ (c .before .before .before .before .before .if2 .left)) (λ e. (c .before .if4 .taken) ((c .before .before .before .before .byte-at2 .ensures) ∙ e)) (λ d. no-digit-test (c .before .before .before .before .byte-at2 .result) (sym (c .before .before .before .is-digit .ensures) ∙ (c .before .before .if3 .left)) (rw (c .before .before .before .before .byte-at2 .ensures) d)) _ _ (c .stopped .ensures)
 
--- src/readers.rt:325:36
 read-power-base-fault-requires : (t : ℕ) → read-power-lts.Need-base-fault-requires (
   read-atom-below t,
   read-atom.Post,
@@ -1153,9 +1100,8 @@ read-power-base-fault-requires : (t : ℕ) → read-power-lts.Need-base-fault-re
   noted-reads.Asked,
   noted-reads.Learnt,
 ) (read-power-at t) read-power.Post
-read-power-base-fault-requires t c κs = omega (arith, got ((c .before .before .before .before .before .before .before .before .before .before .read-atom .ensures)) (not-false _ ((c .before .before .before .before .before .before .if1 .left))) .inside, (c .before .before .before .before .before .before .before .before .before .before .before .before .before .before .good .0 .1))
+read-power-base-fault-requires t c κs = omega (arith, got (c .before .before .before .before .before .before .before .before .before .before .read-atom .ensures) (not-false _ (c .before .before .before .before .before .before .if1 .left)) .inside, (c .before .before .before .before .before .before .before .before .before .before .before .before .before .before .good .0 .1))
 
--- src/readers.rt:325:9
 read-power-lesser-requires : (t : ℕ) → read-power-lts.Need-lesser-requires (
   read-atom-below t,
   read-atom.Post,
@@ -1182,7 +1128,6 @@ read-power-lesser-requires : (t : ℕ) → read-power-lts.Need-lesser-requires (
 ) (read-power-at t) read-power.Post
 read-power-lesser-requires t c κs = search needs
 
--- src/readers.rt:326:9
 read-power-read-bracket-requires : (t : ℕ) → read-power-lts.Need-read-bracket-requires (
   read-atom-below t,
   read-atom.Post,
@@ -1207,9 +1152,8 @@ read-power-read-bracket-requires : (t : ℕ) → read-power-lts.Need-read-bracke
   noted-reads.Asked,
   noted-reads.Learnt,
 ) (read-power-at t) read-power.Post
-read-power-read-bracket-requires t c κs = let base = got ((c .before .before .before .before .before .before .before .before .before .before .before .before .before .read-atom .ensures)) (not-false _ ((c .before .before .before .before .before .before .before .before .before .if1 .left))) in (omega (arith, (c .before .before .before .before .before .before .before .before .before .before .before .before .before .before .before .before .before .pre .0), base .onward, base .inside, inside ((c .before .before .before .before .before .before .before .before .before .before .before .before .before .before .before .before .before .args .text .now)) ((c .before .before .before .before .before .before .before .before .before .before .before .before .before .read-atom .result .at)) (omega (arith, (c .before .before .before .before .before .before .before .before .byte-at .ensures), (c .before .before .before .before .before .before .before .if2 .left)))), (inside ((c .before .before .before .before .before .before .before .before .before .before .before .before .before .before .before .before .before .args .text .now)) ((c .before .before .before .before .before .before .before .before .before .before .before .before .before .read-atom .result .at) + 1) (omega (arith, (c .before .before .before .before .before .before .byte-at2 .ensures), (c .before .before .before .if4 .left))), omega (arith, base .counted, base .room, (c .before .before .before .before .before .before .before .before .before .before .before .before .before .before .before .before .before .pre .1 .1 .0))))
+read-power-read-bracket-requires t c κs = let base = got (c .before .before .before .before .before .before .before .before .before .before .before .before .before .read-atom .ensures) (not-false _ (c .before .before .before .before .before .before .before .before .before .if1 .left)) in (omega (arith, (c .before .before .before .before .before .before .before .before .before .before .before .before .before .before .before .before .before .pre .0), base .onward, base .inside, inside (c .before .before .before .before .before .before .before .before .before .before .before .before .before .before .before .before .before .args .text .now) (c .before .before .before .before .before .before .before .before .before .before .before .before .before .read-atom .result .at) (omega (arith, (c .before .before .before .before .before .before .before .before .byte-at .ensures), (c .before .before .before .before .before .before .before .if2 .left)))), (inside (c .before .before .before .before .before .before .before .before .before .before .before .before .before .before .before .before .before .args .text .now) ((c .before .before .before .before .before .before .before .before .before .before .before .before .before .read-atom .result .at) + 1) (omega (arith, (c .before .before .before .before .before .before .byte-at2 .ensures), (c .before .before .before .if4 .left))), omega (arith, base .counted, base .room, (c .before .before .before .before .before .before .before .before .before .before .before .before .before .before .before .before .before .pre .1 .1 .0))))
 
--- src/readers.rt:328:9
 read-power-same-length-5 : (t : ℕ) → read-power-lts.Need-same-length-5 (
   read-atom-below t,
   read-atom.Post,
@@ -1236,7 +1180,6 @@ read-power-same-length-5 : (t : ℕ) → read-power-lts.Need-same-length-5 (
 ) (read-power-at t) read-power.Post
 read-power-same-length-5 t c = search needs
 
--- src/readers.rt:328:9
 read-power-returns-5 : (t : ℕ) → read-power-lts.Need-returns-5 (
   read-atom-below t,
   read-atom.Post,
@@ -1261,9 +1204,8 @@ read-power-returns-5 : (t : ℕ) → read-power-lts.Need-returns-5 (
   noted-reads.Asked,
   noted-reads.Learnt,
 ) (read-power-at t) read-power.Post
-read-power-returns-5 t c = raise-lost ((c .before .before .before .before .before .before .before .before .before .before .before .before .before .before .before .before .before .before .before .before .before .before .args .text .now)) ((c .before .before .before .before .before .before .before .before .before .before .before .before .before .before .before .before .before .before .before .before .before .before .args .at)) ((c .before .before .before .before .before .before .before .before .before .before .before .before .before .before .before .before .before .before .before .before .before .before .args .nodes)) ((c .before .before .before .before .before .before .before .before .before .before .before .before .before .before .before .before .before .before .before .before .before .before .args .fault)) _ ((c .before .before .before .before .before .before .before .before .before .before .before .before .before .before .before .before .before .before .read-atom .result)) _ (got ((c .before .before .before .before .before .before .before .before .before .before .before .before .before .before .before .before .before .before .read-atom .ensures)) (not-false _ ((c .before .before .before .before .before .before .before .before .before .before .before .before .before .before .if1 .left)))) (sym ((c .before .before .before .before .before .before .before .before .before .before .before .before .before .byte-at .ensures)) ∙ (c .before .before .before .before .before .before .before .before .before .before .before .before .if2 .left)) (sym ((c .before .before .before .before .before .before .before .before .before .before .before .byte-at2 .ensures)) ∙ (c .before .before .before .before .before .before .before .before .if4 .left)) _ ((c .before .before .before .before .before .before .lesser .ensures) ∙ ap (λ g. min ((c .before .before .before .before .before .before .before .before .before .before .before .before .before .before .before .before .before .before .read-atom .result .fault)) g) ((c .before .before .before .before .before .before .before .base-fault .ensures))) _ _ ((c .before .before .before .before .read-bracket .ensures)) (not-true _ ((c .if5 .taken)))
+read-power-returns-5 t c = raise-lost (c .before .before .before .before .before .before .before .before .before .before .before .before .before .before .before .before .before .before .before .before .before .before .args .text .now) (c .before .before .before .before .before .before .before .before .before .before .before .before .before .before .before .before .before .before .before .before .before .before .args .at) (c .before .before .before .before .before .before .before .before .before .before .before .before .before .before .before .before .before .before .before .before .before .before .args .nodes) (c .before .before .before .before .before .before .before .before .before .before .before .before .before .before .before .before .before .before .before .before .before .before .args .fault) _ (c .before .before .before .before .before .before .before .before .before .before .before .before .before .before .before .before .before .before .read-atom .result) _ (got (c .before .before .before .before .before .before .before .before .before .before .before .before .before .before .before .before .before .before .read-atom .ensures) (not-false _ (c .before .before .before .before .before .before .before .before .before .before .before .before .before .before .if1 .left))) (sym (c .before .before .before .before .before .before .before .before .before .before .before .before .before .byte-at .ensures) ∙ (c .before .before .before .before .before .before .before .before .before .before .before .before .if2 .left)) (sym (c .before .before .before .before .before .before .before .before .before .before .before .byte-at2 .ensures) ∙ (c .before .before .before .before .before .before .before .before .if4 .left)) _ ((c .before .before .before .before .before .before .lesser .ensures) ∙ ap (λ g. min (c .before .before .before .before .before .before .before .before .before .before .before .before .before .before .before .before .before .before .read-atom .result .fault) g) (c .before .before .before .before .before .before .before .base-fault .ensures)) _ _ (c .before .before .before .before .read-bracket .ensures) (not-true _ (c .if5 .taken))
 
--- src/readers.rt:330:23
 read-power-either-requires : (t : ℕ) → read-power-lts.Need-either-requires (
   read-atom-below t,
   read-atom.Post,
@@ -1290,7 +1232,6 @@ read-power-either-requires : (t : ℕ) → read-power-lts.Need-either-requires (
 ) (read-power-at t) read-power.Post
 read-power-either-requires t c κs = search needs
 
--- src/readers.rt:330:5
 read-power-noted-requires : (t : ℕ) → read-power-lts.Need-noted-requires (
   read-atom-below t,
   read-atom.Post,
@@ -1315,9 +1256,8 @@ read-power-noted-requires : (t : ℕ) → read-power-lts.Need-noted-requires (
   noted-reads.Asked,
   noted-reads.Learnt,
 ) (read-power-at t) read-power.Post
-read-power-noted-requires t c κs = let base = got ((c .before .before .before .before .before .before .before .before .before .before .before .before .before .before .before .before .before .before .before .before .read-atom .ensures)) (not-false _ ((c .before .before .before .before .before .before .before .before .before .before .before .before .before .before .before .before .if1 .left))) in let power = got ((c .before .before .before .before .before .before .read-bracket .ensures)) (not-false _ ((c .before .before .if5 .left))) in omega (arith, base .counted, base .room, power .counted, power .room, power .inside, (c .before .before .before .before .before .before .before .before .before .before .before .before .before .before .before .before .before .before .before .before .before .before .before .before .pre .1 .1 .0), (c .before .before .before .before .before .before .before .before .before .before .before .before .before .before .before .before .before .before .before .before .before .before .before .before .good .0 .1))
+read-power-noted-requires t c κs = let base = got (c .before .before .before .before .before .before .before .before .before .before .before .before .before .before .before .before .before .before .before .before .read-atom .ensures) (not-false _ (c .before .before .before .before .before .before .before .before .before .before .before .before .before .before .before .before .if1 .left)) in let power = got (c .before .before .before .before .before .before .read-bracket .ensures) (not-false _ (c .before .before .if5 .left)) in omega (arith, base .counted, base .room, power .counted, power .room, power .inside, (c .before .before .before .before .before .before .before .before .before .before .before .before .before .before .before .before .before .before .before .before .before .before .before .before .pre .1 .1 .0), (c .before .before .before .before .before .before .before .before .before .before .before .before .before .before .before .before .before .before .before .before .before .before .before .before .good .0 .1))
 
--- src/readers.rt:302:1
 read-power-same-length-6 : (t : ℕ) → read-power-lts.Need-same-length-6 (
   read-atom-below t,
   read-atom.Post,
@@ -1344,7 +1284,6 @@ read-power-same-length-6 : (t : ℕ) → read-power-lts.Need-same-length-6 (
 ) (read-power-at t) read-power.Post
 read-power-same-length-6 t c = (c .before .before .noted .kept .0) ∙ (c .before .before .before .before .before .before .before .before .before .read-bracket .kept .1 .0) ∙ (c .before .before .before .before .before .before .before .before .before .before .before .before .before .before .before .before .before .before .before .before .before .before .before .read-atom .kept .1 .0)
 
--- src/readers.rt:302:1
 read-power-returns-6 : (t : ℕ) → read-power-lts.Need-returns-6 (
   read-atom-below t,
   read-atom.Post,
@@ -1369,7 +1308,7 @@ read-power-returns-6 : (t : ℕ) → read-power-lts.Need-returns-6 (
   noted-reads.Asked,
   noted-reads.Learnt,
 ) (read-power-at t) read-power.Post
-read-power-returns-6 t c = power-raise ((c .before .before .before .before .before .before .before .before .before .before .before .before .before .before .before .before .before .before .before .before .before .before .before .before .before .before .before .args .text .now)) ((c .before .before .before .before .before .before .before .before .before .before .before .before .before .before .before .before .before .before .before .before .before .before .before .before .before .before .before .args .at)) ((c .before .before .before .before .before .before .before .before .before .before .before .before .before .before .before .before .before .before .before .before .before .before .before .before .before .before .before .args .nodes)) ((c .before .before .before .before .before .before .before .before .before .before .before .before .before .before .before .before .before .before .before .before .before .before .before .before .before .before .before .args .fault)) _ ((c .before .before .before .before .before .before .before .before .before .before .before .before .before .before .before .before .before .before .before .before .before .before .before .read-atom .result)) _ (got ((c .before .before .before .before .before .before .before .before .before .before .before .before .before .before .before .before .before .before .before .before .before .before .before .read-atom .ensures)) (not-false _ ((c .before .before .before .before .before .before .before .before .before .before .before .before .before .before .before .before .before .before .before .if1 .left)))) (sym ((c .before .before .before .before .before .before .before .before .before .before .before .before .before .before .before .before .before .before .byte-at .ensures)) ∙ (c .before .before .before .before .before .before .before .before .before .before .before .before .before .before .before .before .before .if2 .left)) (sym ((c .before .before .before .before .before .before .before .before .before .before .before .before .before .before .before .before .byte-at2 .ensures)) ∙ (c .before .before .before .before .before .before .before .before .before .before .before .before .before .if4 .left)) _ ((c .before .before .before .before .before .before .before .before .before .before .before .lesser .ensures) ∙ ap (λ g. min ((c .before .before .before .before .before .before .before .before .before .before .before .before .before .before .before .before .before .before .before .before .before .before .before .read-atom .result .fault)) g) ((c .before .before .before .before .before .before .before .before .before .before .before .before .base-fault .ensures))) ((c .before .before .before .before .before .before .before .before .before .read-bracket .result)) _ ((c .before .before .before .before .before .before .before .before .before .read-bracket .ensures)) (not-false _ ((c .before .before .before .before .before .if5 .left))) _ _ ((c .before .before .noted .ensures .0) ∙ ap (λ b. finding b 1 ((c .before .before .before .before .before .before .before .before .before .read-bracket .result .at)) ((c .before .before .before .before .before .before .before .before .before .read-bracket .result .nodes) + 1) ((c .before .before .before .before .before .before .before .before .before .read-bracket .result .fault))) ((c .before .before .before .either .ensures))) ((c .before .before .noted .ensures .1))
+read-power-returns-6 t c = power-raise (c .before .before .before .before .before .before .before .before .before .before .before .before .before .before .before .before .before .before .before .before .before .before .before .before .before .before .before .args .text .now) (c .before .before .before .before .before .before .before .before .before .before .before .before .before .before .before .before .before .before .before .before .before .before .before .before .before .before .before .args .at) (c .before .before .before .before .before .before .before .before .before .before .before .before .before .before .before .before .before .before .before .before .before .before .before .before .before .before .before .args .nodes) (c .before .before .before .before .before .before .before .before .before .before .before .before .before .before .before .before .before .before .before .before .before .before .before .before .before .before .before .args .fault) _ (c .before .before .before .before .before .before .before .before .before .before .before .before .before .before .before .before .before .before .before .before .before .before .before .read-atom .result) _ (got (c .before .before .before .before .before .before .before .before .before .before .before .before .before .before .before .before .before .before .before .before .before .before .before .read-atom .ensures) (not-false _ (c .before .before .before .before .before .before .before .before .before .before .before .before .before .before .before .before .before .before .before .if1 .left))) (sym (c .before .before .before .before .before .before .before .before .before .before .before .before .before .before .before .before .before .before .byte-at .ensures) ∙ (c .before .before .before .before .before .before .before .before .before .before .before .before .before .before .before .before .before .if2 .left)) (sym (c .before .before .before .before .before .before .before .before .before .before .before .before .before .before .before .before .byte-at2 .ensures) ∙ (c .before .before .before .before .before .before .before .before .before .before .before .before .before .if4 .left)) _ ((c .before .before .before .before .before .before .before .before .before .before .before .lesser .ensures) ∙ ap (λ g. min (c .before .before .before .before .before .before .before .before .before .before .before .before .before .before .before .before .before .before .before .before .before .before .before .read-atom .result .fault) g) (c .before .before .before .before .before .before .before .before .before .before .before .before .base-fault .ensures)) (c .before .before .before .before .before .before .before .before .before .read-bracket .result) _ (c .before .before .before .before .before .before .before .before .before .read-bracket .ensures) (not-false _ (c .before .before .before .before .before .if5 .left)) _ _ ((c .before .before .noted .ensures .0) ∙ ap (λ b. finding b 1 (c .before .before .before .before .before .before .before .before .before .read-bracket .result .at) ((c .before .before .before .before .before .before .before .before .before .read-bracket .result .nodes) + 1) (c .before .before .before .before .before .before .before .before .before .read-bracket .result .fault)) (c .before .before .before .either .ensures)) (c .before .before .noted .ensures .1)
 
 abbrev read-product-Inv-loop : read-product-lts.InvT-loop
 read-product-Inv-loop text tree₀ at nodes fault left₀ joined₀ tree left joined = (ProductSoFar text at nodes fault tree₀ left joined tree) × (length tree ≡ length tree₀)
@@ -1377,7 +1316,6 @@ read-product-Inv-loop text tree₀ at nodes fault left₀ joined₀ tree left jo
 abbrev read-product-μ-loop : read-product-lts.MeasureT-loop
 read-product-μ-loop text tree₀ at nodes fault left₀ joined₀ tree left joined = length text - left .at
 
--- src/readers.rt:353:9
 read-product-starting-requires : (t : ℕ) → read-product-lts.Need-starting-requires (
   starting-reads.Asked,
   starting-reads.Learnt,
@@ -1392,7 +1330,6 @@ read-product-starting-requires : (t : ℕ) → read-product-lts.Need-starting-re
 ) (read-product-at t) read-product.Post read-product-Inv-loop read-product-μ-loop
 read-product-starting-requires t c κs = search needs
 
--- src/readers.rt:355:5
 read-product-loop-holds : (t : ℕ) → read-product-lts.Need-loop-holds (
   starting-reads.Asked,
   starting-reads.Learnt,
@@ -1405,9 +1342,8 @@ read-product-loop-holds : (t : ℕ) → read-product-lts.Need-loop-holds (
   beyond-reads.Asked,
   beyond-reads.Learnt,
 ) (read-product-at t) read-product.Post read-product-Inv-loop read-product-μ-loop
-read-product-loop-holds t c = (product-starts _ ((c .starting .ensures)), refl)
+read-product-loop-holds t c = (product-starts _ (c .starting .ensures), refl)
 
--- src/readers.rt:356:13
 read-product-read-factor-requires : (t : ℕ) → read-product-lts.Need-read-factor-requires (
   starting-reads.Asked,
   starting-reads.Learnt,
@@ -1420,9 +1356,8 @@ read-product-read-factor-requires : (t : ℕ) → read-product-lts.Need-read-fac
   beyond-reads.Asked,
   beyond-reads.Learnt,
 ) (read-product-at t) read-product.Post read-product-Inv-loop read-product-μ-loop
-read-product-read-factor-requires t c κs = let so = product-onward ((c .before .before .before .before .before .pre .1 .0)) ((c .before .loop .inv .0)) in (omega (arith, (c .before .before .before .before .before .pre .0), so .after), (so .inside, so .few ((c .before .before .before .before .before .pre .1 .1))))
+read-product-read-factor-requires t c κs = let so = product-onward (c .before .before .before .before .before .pre .1 .0) (c .before .loop .inv .0) in (omega (arith, (c .before .before .before .before .before .pre .0), so .after), (so .inside, so .few (c .before .before .before .before .before .pre .1 .1)))
 
--- src/readers.rt:358:13
 read-product-same-length : (t : ℕ) → read-product-lts.Need-same-length (
   starting-reads.Asked,
   starting-reads.Learnt,
@@ -1437,7 +1372,6 @@ read-product-same-length : (t : ℕ) → read-product-lts.Need-same-length (
 ) (read-product-at t) read-product.Post read-product-Inv-loop read-product-μ-loop
 read-product-same-length t c = search needs
 
--- src/readers.rt:358:13
 read-product-returns : (t : ℕ) → read-product-lts.Need-returns (
   starting-reads.Asked,
   starting-reads.Learnt,
@@ -1450,9 +1384,8 @@ read-product-returns : (t : ℕ) → read-product-lts.Need-returns (
   beyond-reads.Asked,
   beyond-reads.Learnt,
 ) (read-product-at t) read-product.Post read-product-Inv-loop read-product-μ-loop
-read-product-returns t c = product-lost ((c .before .before .before .before .before .before .loop .inv .0)) ((c .before .before .before .before .read-factor .ensures)) (not-true _ ((c .if1 .taken)))
+read-product-returns t c = product-lost (c .before .before .before .before .before .before .loop .inv .0) (c .before .before .before .before .read-factor .ensures) (not-true _ (c .if1 .taken))
 
--- src/readers.rt:360:13
 read-product-joined-product-requires : (t : ℕ) → read-product-lts.Need-joined-product-requires (
   starting-reads.Asked,
   starting-reads.Learnt,
@@ -1465,9 +1398,8 @@ read-product-joined-product-requires : (t : ℕ) → read-product-lts.Need-joine
   beyond-reads.Asked,
   beyond-reads.Learnt,
 ) (read-product-at t) read-product.Post read-product-Inv-loop read-product-μ-loop
-read-product-joined-product-requires t c κs = let so = product-onward ((c .before .before .before .before .before .before .before .before .before .before .before .pre .1 .0)) ((c .before .before .before .before .before .before .before .loop .inv .0)) in let factor = got ((c .before .before .before .before .before .read-factor .ensures)) (not-false _ ((c .before .if1 .left))) in (omega (arith, got-few factor (so .few ((c .before .before .before .before .before .before .before .before .before .before .before .pre .1 .1))), factor .inside, (c .before .before .before .before .before .before .before .before .before .before .before .good .0 .1)), (so .odd-small, got-odd factor))
+read-product-joined-product-requires t c κs = let so = product-onward (c .before .before .before .before .before .before .before .before .before .before .before .pre .1 .0) (c .before .before .before .before .before .before .before .loop .inv .0) in let factor = got (c .before .before .before .before .before .read-factor .ensures) (not-false _ (c .before .if1 .left)) in (omega (arith, got-few factor (so .few (c .before .before .before .before .before .before .before .before .before .before .before .pre .1 .1)), factor .inside, (c .before .before .before .before .before .before .before .before .before .before .before .good .0 .1)), (so .odd-small, got-odd factor))
 
--- src/readers.rt:362:12
 read-product-byte-at-requires : (t : ℕ) → read-product-lts.Need-byte-at-requires (
   starting-reads.Asked,
   starting-reads.Learnt,
@@ -1482,7 +1414,6 @@ read-product-byte-at-requires : (t : ℕ) → read-product-lts.Need-byte-at-requ
 ) (read-product-at t) read-product.Post read-product-Inv-loop read-product-μ-loop
 read-product-byte-at-requires t c κs = search needs
 
--- src/readers.rt:363:13
 read-product-same-length-2 : (t : ℕ) → read-product-lts.Need-same-length-2 (
   starting-reads.Asked,
   starting-reads.Learnt,
@@ -1497,7 +1428,6 @@ read-product-same-length-2 : (t : ℕ) → read-product-lts.Need-same-length-2 (
 ) (read-product-at t) read-product.Post read-product-Inv-loop read-product-μ-loop
 read-product-same-length-2 t c = search needs
 
--- src/readers.rt:363:13
 read-product-returns-2 : (t : ℕ) → read-product-lts.Need-returns-2 (
   starting-reads.Asked,
   starting-reads.Learnt,
@@ -1510,9 +1440,8 @@ read-product-returns-2 : (t : ℕ) → read-product-lts.Need-returns-2 (
   beyond-reads.Asked,
   beyond-reads.Learnt,
 ) (read-product-at t) read-product.Post read-product-Inv-loop read-product-μ-loop
-read-product-returns-2 t c = product-ends (product-joined ((c .before .before .before .before .before .before .before .before .before .before .before .before .loop .inv .0)) ((c .before .before .before .before .before .before .before .before .before .before .read-factor .ensures)) (not-false _ ((c .before .before .before .before .before .before .if1 .left))) ((c .before .before .before .before .joined-product .result)) _ ((c .before .before .before .before .joined-product .ensures .0)) ((c .before .before .before .before .joined-product .ensures .1))) (λ e. (c .if2 .taken) ((c .before .byte-at .ensures) ∙ e))
+read-product-returns-2 t c = product-ends (product-joined (c .before .before .before .before .before .before .before .before .before .before .before .before .loop .inv .0) (c .before .before .before .before .before .before .before .before .before .before .read-factor .ensures) (not-false _ (c .before .before .before .before .before .before .if1 .left)) (c .before .before .before .before .joined-product .result) _ (c .before .before .before .before .joined-product .ensures .0) (c .before .before .before .before .joined-product .ensures .1)) (λ e. (c .if2 .taken) ((c .before .byte-at .ensures) ∙ e))
 
--- src/readers.rt:365:9
 read-product-beyond-requires : (t : ℕ) → read-product-lts.Need-beyond-requires (
   starting-reads.Asked,
   starting-reads.Learnt,
@@ -1525,9 +1454,8 @@ read-product-beyond-requires : (t : ℕ) → read-product-lts.Need-beyond-requir
   beyond-reads.Asked,
   beyond-reads.Learnt,
 ) (read-product-at t) read-product.Post read-product-Inv-loop read-product-μ-loop
-read-product-beyond-requires t c κs = let whole = product-joined ((c .before .before .before .before .before .before .before .before .before .before .before .before .loop .inv .0)) ((c .before .before .before .before .before .before .before .before .before .before .read-factor .ensures)) (not-false _ ((c .before .before .before .before .before .before .if1 .left))) ((c .before .before .before .before .joined-product .result)) _ ((c .before .before .before .before .joined-product .ensures .0)) ((c .before .before .before .before .joined-product .ensures .1)) in omega (arith, whole .inside, (c .before .before .before .before .before .before .before .before .before .before .before .before .before .before .before .before .good .0 .1))
+read-product-beyond-requires t c κs = let whole = product-joined (c .before .before .before .before .before .before .before .before .before .before .before .before .loop .inv .0) (c .before .before .before .before .before .before .before .before .before .before .read-factor .ensures) (not-false _ (c .before .before .before .before .before .before .if1 .left)) (c .before .before .before .before .joined-product .result) _ (c .before .before .before .before .joined-product .ensures .0) (c .before .before .before .before .joined-product .ensures .1) in omega (arith, whole .inside, (c .before .before .before .before .before .before .before .before .before .before .before .before .before .before .before .before .good .0 .1))
 
--- src/readers.rt:355:5
 read-product-loop-less : (t : ℕ) → read-product-lts.Need-loop-less (
   starting-reads.Asked,
   starting-reads.Learnt,
@@ -1540,9 +1468,8 @@ read-product-loop-less : (t : ℕ) → read-product-lts.Need-loop-less (
   beyond-reads.Asked,
   beyond-reads.Learnt,
 ) (read-product-at t) read-product.Post read-product-Inv-loop read-product-μ-loop
-read-product-loop-less t c = let factor = got ((c .before .before .before .before .before .before .before .before .before .before .before .read-factor .ensures)) (not-false _ ((c .before .before .before .before .before .before .before .if1 .left))) in let end = ap (λ (x : Found). x .at) ((c .beyond .ensures)) in omega (arith, factor .onward, factor .inside, product-place ((c .before .before .before .before .before .before .before .before .before .before .before .before .before .loop .joined)) ((c .before .before .before .before .before .before .before .before .before .before .before .before .before .loop .left)) ((c .before .before .before .before .before .before .before .before .before .before .before .read-factor .result)) ((c .before .before .before .before .before .joined-product .result)) ((c .before .before .before .before .before .joined-product .ensures .0)))
+read-product-loop-less t c = let factor = got (c .before .before .before .before .before .before .before .before .before .before .before .read-factor .ensures) (not-false _ (c .before .before .before .before .before .before .before .if1 .left)) in let end = ap (λ (x : Found). x .at) (c .beyond .ensures) in omega (arith, factor .onward, factor .inside, product-place (c .before .before .before .before .before .before .before .before .before .before .before .before .before .loop .joined) (c .before .before .before .before .before .before .before .before .before .before .before .before .before .loop .left) (c .before .before .before .before .before .before .before .before .before .before .before .read-factor .result) (c .before .before .before .before .before .joined-product .result) (c .before .before .before .before .before .joined-product .ensures .0))
 
--- src/readers.rt:355:5
 read-product-loop-again : (t : ℕ) → read-product-lts.Need-loop-again (
   starting-reads.Asked,
   starting-reads.Learnt,
@@ -1555,7 +1482,7 @@ read-product-loop-again : (t : ℕ) → read-product-lts.Need-loop-again (
   beyond-reads.Asked,
   beyond-reads.Learnt,
 ) (read-product-at t) read-product.Post read-product-Inv-loop read-product-μ-loop
-read-product-loop-again t c = (product-goes-on (product-joined ((c .before .before .before .before .before .before .before .before .before .before .before .before .before .loop .inv .0)) ((c .before .before .before .before .before .before .before .before .before .before .before .read-factor .ensures)) (not-false _ ((c .before .before .before .before .before .before .before .if1 .left))) ((c .before .before .before .before .before .joined-product .result)) _ ((c .before .before .before .before .before .joined-product .ensures .0)) ((c .before .before .before .before .before .joined-product .ensures .1))) (sym ((c .before .before .byte-at .ensures)) ∙ (c .before .if2 .left)) _ ((c .beyond .ensures)), (c .before .before .before .before .before .joined-product .kept .0) ∙ (c .before .before .before .before .before .before .before .before .before .before .before .read-factor .kept .1 .0) ∙ (c .before .before .before .before .before .before .before .before .before .before .before .before .before .loop .inv .1))
+read-product-loop-again t c = (product-goes-on (product-joined (c .before .before .before .before .before .before .before .before .before .before .before .before .before .loop .inv .0) (c .before .before .before .before .before .before .before .before .before .before .before .read-factor .ensures) (not-false _ (c .before .before .before .before .before .before .before .if1 .left)) (c .before .before .before .before .before .joined-product .result) _ (c .before .before .before .before .before .joined-product .ensures .0) (c .before .before .before .before .before .joined-product .ensures .1)) (sym (c .before .before .byte-at .ensures) ∙ (c .before .if2 .left)) _ (c .beyond .ensures), (c .before .before .before .before .before .joined-product .kept .0) ∙ (c .before .before .before .before .before .before .before .before .before .before .before .read-factor .kept .1 .0) ∙ (c .before .before .before .before .before .before .before .before .before .before .before .before .before .loop .inv .1))
 
 abbrev read-sum-Inv-loop : read-sum-lts.InvT-loop
 read-sum-Inv-loop text tree₀ at nodes fault left₀ sign₀ tree left sign = (SumSoFar text at nodes fault tree₀ left sign tree) × (length tree ≡ length tree₀)
@@ -1563,7 +1490,6 @@ read-sum-Inv-loop text tree₀ at nodes fault left₀ sign₀ tree left sign = (
 abbrev read-sum-μ-loop : read-sum-lts.MeasureT-loop
 read-sum-μ-loop text tree₀ at nodes fault left₀ sign₀ tree left sign = length text - left .at
 
--- src/readers.rt:376:9
 read-sum-starting-requires : (t : ℕ) → read-sum-lts.Need-starting-requires (
   starting-reads.Asked,
   starting-reads.Learnt,
@@ -1580,7 +1506,6 @@ read-sum-starting-requires : (t : ℕ) → read-sum-lts.Need-starting-requires (
 ) (read-sum-at t) read-sum.Post read-sum-Inv-loop read-sum-μ-loop
 read-sum-starting-requires t c κs = search needs
 
--- src/readers.rt:378:5
 read-sum-loop-holds : (t : ℕ) → read-sum-lts.Need-loop-holds (
   starting-reads.Asked,
   starting-reads.Learnt,
@@ -1595,9 +1520,8 @@ read-sum-loop-holds : (t : ℕ) → read-sum-lts.Need-loop-holds (
   beyond-reads.Asked,
   beyond-reads.Learnt,
 ) (read-sum-at t) read-sum.Post read-sum-Inv-loop read-sum-μ-loop
-read-sum-loop-holds t c = (sum-starts _ ((c .starting .ensures)), refl)
+read-sum-loop-holds t c = (sum-starts _ (c .starting .ensures), refl)
 
--- src/readers.rt:379:13
 read-sum-read-product-requires : (t : ℕ) → read-sum-lts.Need-read-product-requires (
   starting-reads.Asked,
   starting-reads.Learnt,
@@ -1612,9 +1536,8 @@ read-sum-read-product-requires : (t : ℕ) → read-sum-lts.Need-read-product-re
   beyond-reads.Asked,
   beyond-reads.Learnt,
 ) (read-sum-at t) read-sum.Post read-sum-Inv-loop read-sum-μ-loop
-read-sum-read-product-requires t c κs = let so = sum-onward ((c .before .before .before .before .before .pre .1 .0)) ((c .before .loop .inv .0)) in (omega (arith, (c .before .before .before .before .before .pre .0), so .after), (so .inside, so .few ((c .before .before .before .before .before .pre .1 .1))))
+read-sum-read-product-requires t c κs = let so = sum-onward (c .before .before .before .before .before .pre .1 .0) (c .before .loop .inv .0) in (omega (arith, (c .before .before .before .before .before .pre .0), so .after), (so .inside, so .few (c .before .before .before .before .before .pre .1 .1)))
 
--- src/readers.rt:381:13
 read-sum-same-length : (t : ℕ) → read-sum-lts.Need-same-length (
   starting-reads.Asked,
   starting-reads.Learnt,
@@ -1631,7 +1554,6 @@ read-sum-same-length : (t : ℕ) → read-sum-lts.Need-same-length (
 ) (read-sum-at t) read-sum.Post read-sum-Inv-loop read-sum-μ-loop
 read-sum-same-length t c = search needs
 
--- src/readers.rt:381:13
 read-sum-returns : (t : ℕ) → read-sum-lts.Need-returns (
   starting-reads.Asked,
   starting-reads.Learnt,
@@ -1646,9 +1568,8 @@ read-sum-returns : (t : ℕ) → read-sum-lts.Need-returns (
   beyond-reads.Asked,
   beyond-reads.Learnt,
 ) (read-sum-at t) read-sum.Post read-sum-Inv-loop read-sum-μ-loop
-read-sum-returns t c = sum-lost ((c .before .before .before .before .before .before .loop .inv .0)) ((c .before .before .before .before .read-product .ensures)) (not-true _ ((c .if1 .taken)))
+read-sum-returns t c = sum-lost (c .before .before .before .before .before .before .loop .inv .0) (c .before .before .before .before .read-product .ensures) (not-true _ (c .if1 .taken))
 
--- src/readers.rt:383:13
 read-sum-joined-sum-requires : (t : ℕ) → read-sum-lts.Need-joined-sum-requires (
   starting-reads.Asked,
   starting-reads.Learnt,
@@ -1663,9 +1584,8 @@ read-sum-joined-sum-requires : (t : ℕ) → read-sum-lts.Need-joined-sum-requir
   beyond-reads.Asked,
   beyond-reads.Learnt,
 ) (read-sum-at t) read-sum.Post read-sum-Inv-loop read-sum-μ-loop
-read-sum-joined-sum-requires t c κs = let so = sum-onward ((c .before .before .before .before .before .before .before .before .before .before .before .pre .1 .0)) ((c .before .before .before .before .before .before .before .loop .inv .0)) in let factor = got ((c .before .before .before .before .before .read-product .ensures)) (not-false _ ((c .before .if1 .left))) in (omega (arith, got-few factor (so .few ((c .before .before .before .before .before .before .before .before .before .before .before .pre .1 .1))), factor .inside, (c .before .before .before .before .before .before .before .before .before .before .before .good .0 .1)), (so .odd-small, got-odd factor))
+read-sum-joined-sum-requires t c κs = let so = sum-onward (c .before .before .before .before .before .before .before .before .before .before .before .pre .1 .0) (c .before .before .before .before .before .before .before .loop .inv .0) in let factor = got (c .before .before .before .before .before .read-product .ensures) (not-false _ (c .before .if1 .left)) in (omega (arith, got-few factor (so .few (c .before .before .before .before .before .before .before .before .before .before .before .pre .1 .1)), factor .inside, (c .before .before .before .before .before .before .before .before .before .before .before .good .0 .1)), (so .odd-small, got-odd factor))
 
--- src/readers.rt:384:13
 read-sum-byte-at-requires : (t : ℕ) → read-sum-lts.Need-byte-at-requires (
   starting-reads.Asked,
   starting-reads.Learnt,
@@ -1682,7 +1602,6 @@ read-sum-byte-at-requires : (t : ℕ) → read-sum-lts.Need-byte-at-requires (
 ) (read-sum-at t) read-sum.Post read-sum-Inv-loop read-sum-μ-loop
 read-sum-byte-at-requires t c κs = search needs
 
--- src/readers.rt:385:13
 read-sum-is-sign-requires : (t : ℕ) → read-sum-lts.Need-is-sign-requires (
   starting-reads.Asked,
   starting-reads.Learnt,
@@ -1699,7 +1618,6 @@ read-sum-is-sign-requires : (t : ℕ) → read-sum-lts.Need-is-sign-requires (
 ) (read-sum-at t) read-sum.Post read-sum-Inv-loop read-sum-μ-loop
 read-sum-is-sign-requires t c κs = search needs
 
--- src/readers.rt:386:13
 read-sum-same-length-2 : (t : ℕ) → read-sum-lts.Need-same-length-2 (
   starting-reads.Asked,
   starting-reads.Learnt,
@@ -1716,7 +1634,6 @@ read-sum-same-length-2 : (t : ℕ) → read-sum-lts.Need-same-length-2 (
 ) (read-sum-at t) read-sum.Post read-sum-Inv-loop read-sum-μ-loop
 read-sum-same-length-2 t c = search needs
 
--- src/readers.rt:386:13
 read-sum-returns-2 : (t : ℕ) → read-sum-lts.Need-returns-2 (
   starting-reads.Asked,
   starting-reads.Learnt,
@@ -1731,9 +1648,8 @@ read-sum-returns-2 : (t : ℕ) → read-sum-lts.Need-returns-2 (
   beyond-reads.Asked,
   beyond-reads.Learnt,
 ) (read-sum-at t) read-sum.Post read-sum-Inv-loop read-sum-μ-loop
-read-sum-returns-2 t c = sum-ends (sum-joined ((c .before .before .before .before .before .before .before .before .before .before .before .before .before .loop .inv .0)) ((c .before .before .before .before .before .before .before .before .before .before .before .read-product .ensures)) (not-false _ ((c .before .before .before .before .before .before .before .if1 .left))) ((c .before .before .before .before .before .joined-sum .result)) _ ((c .before .before .before .before .before .joined-sum .ensures .0)) ((c .before .before .before .before .before .joined-sum .ensures .1))) (sym (ap (λ b. eqb b 43 || eqb b 45) ((c .before .before .byte-at .ensures))) ∙ sym ((c .before .is-sign .ensures)) ∙ not-true _ ((c .if2 .taken)))
+read-sum-returns-2 t c = sum-ends (sum-joined (c .before .before .before .before .before .before .before .before .before .before .before .before .before .loop .inv .0) (c .before .before .before .before .before .before .before .before .before .before .before .read-product .ensures) (not-false _ (c .before .before .before .before .before .before .before .if1 .left)) (c .before .before .before .before .before .joined-sum .result) _ (c .before .before .before .before .before .joined-sum .ensures .0) (c .before .before .before .before .before .joined-sum .ensures .1)) (sym (ap (λ b. eqb b 43 || eqb b 45) (c .before .before .byte-at .ensures)) ∙ sym (c .before .is-sign .ensures) ∙ not-true _ (c .if2 .taken))
 
--- src/readers.rt:388:9
 read-sum-beyond-requires : (t : ℕ) → read-sum-lts.Need-beyond-requires (
   starting-reads.Asked,
   starting-reads.Learnt,
@@ -1748,9 +1664,8 @@ read-sum-beyond-requires : (t : ℕ) → read-sum-lts.Need-beyond-requires (
   beyond-reads.Asked,
   beyond-reads.Learnt,
 ) (read-sum-at t) read-sum.Post read-sum-Inv-loop read-sum-μ-loop
-read-sum-beyond-requires t c κs = let whole = sum-joined ((c .before .before .before .before .before .before .before .before .before .before .before .before .before .loop .inv .0)) ((c .before .before .before .before .before .before .before .before .before .before .before .read-product .ensures)) (not-false _ ((c .before .before .before .before .before .before .before .if1 .left))) ((c .before .before .before .before .before .joined-sum .result)) _ ((c .before .before .before .before .before .joined-sum .ensures .0)) ((c .before .before .before .before .before .joined-sum .ensures .1)) in omega (arith, whole .inside, (c .before .before .before .before .before .before .before .before .before .before .before .before .before .before .before .before .before .good .0 .1))
+read-sum-beyond-requires t c κs = let whole = sum-joined (c .before .before .before .before .before .before .before .before .before .before .before .before .before .loop .inv .0) (c .before .before .before .before .before .before .before .before .before .before .before .read-product .ensures) (not-false _ (c .before .before .before .before .before .before .before .if1 .left)) (c .before .before .before .before .before .joined-sum .result) _ (c .before .before .before .before .before .joined-sum .ensures .0) (c .before .before .before .before .before .joined-sum .ensures .1) in omega (arith, whole .inside, (c .before .before .before .before .before .before .before .before .before .before .before .before .before .before .before .before .before .good .0 .1))
 
--- src/readers.rt:378:5
 read-sum-loop-less : (t : ℕ) → read-sum-lts.Need-loop-less (
   starting-reads.Asked,
   starting-reads.Learnt,
@@ -1765,9 +1680,8 @@ read-sum-loop-less : (t : ℕ) → read-sum-lts.Need-loop-less (
   beyond-reads.Asked,
   beyond-reads.Learnt,
 ) (read-sum-at t) read-sum.Post read-sum-Inv-loop read-sum-μ-loop
-read-sum-loop-less t c = let factor = got ((c .before .before .before .before .before .before .before .before .before .before .before .before .read-product .ensures)) (not-false _ ((c .before .before .before .before .before .before .before .before .if1 .left))) in let end = ap (λ (x : Found). x .at) ((c .beyond .ensures)) in omega (arith, factor .onward, factor .inside, sum-place ((c .before .before .before .before .before .before .before .before .before .before .before .before .before .before .loop .sign)) ((c .before .before .before .before .before .before .before .before .before .before .before .before .before .before .loop .left)) ((c .before .before .before .before .before .before .before .before .before .before .before .before .read-product .result)) ((c .before .before .before .before .before .before .joined-sum .result)) ((c .before .before .before .before .before .before .joined-sum .ensures .0)))
+read-sum-loop-less t c = let factor = got (c .before .before .before .before .before .before .before .before .before .before .before .before .read-product .ensures) (not-false _ (c .before .before .before .before .before .before .before .before .if1 .left)) in let end = ap (λ (x : Found). x .at) (c .beyond .ensures) in omega (arith, factor .onward, factor .inside, sum-place (c .before .before .before .before .before .before .before .before .before .before .before .before .before .before .loop .sign) (c .before .before .before .before .before .before .before .before .before .before .before .before .before .before .loop .left) (c .before .before .before .before .before .before .before .before .before .before .before .before .read-product .result) (c .before .before .before .before .before .before .joined-sum .result) (c .before .before .before .before .before .before .joined-sum .ensures .0))
 
--- src/readers.rt:378:5
 read-sum-loop-again : (t : ℕ) → read-sum-lts.Need-loop-again (
   starting-reads.Asked,
   starting-reads.Learnt,
@@ -1782,7 +1696,7 @@ read-sum-loop-again : (t : ℕ) → read-sum-lts.Need-loop-again (
   beyond-reads.Asked,
   beyond-reads.Learnt,
 ) (read-sum-at t) read-sum.Post read-sum-Inv-loop read-sum-μ-loop
-read-sum-loop-again t c = (sum-goes-on (sum-joined ((c .before .before .before .before .before .before .before .before .before .before .before .before .before .before .loop .inv .0)) ((c .before .before .before .before .before .before .before .before .before .before .before .before .read-product .ensures)) (not-false _ ((c .before .before .before .before .before .before .before .before .if1 .left))) ((c .before .before .before .before .before .before .joined-sum .result)) _ ((c .before .before .before .before .before .before .joined-sum .ensures .0)) ((c .before .before .before .before .before .before .joined-sum .ensures .1))) (sym (ap (λ b. eqb b 43 || eqb b 45) ((c .before .before .before .byte-at .ensures))) ∙ sym ((c .before .before .is-sign .ensures)) ∙ not-false _ ((c .before .if2 .left))) _ _ ((c .before .before .before .byte-at .ensures)) ((c .beyond .ensures)), (c .before .before .before .before .before .before .joined-sum .kept .0) ∙ (c .before .before .before .before .before .before .before .before .before .before .before .before .read-product .kept .1 .0) ∙ (c .before .before .before .before .before .before .before .before .before .before .before .before .before .before .loop .inv .1))
+read-sum-loop-again t c = (sum-goes-on (sum-joined (c .before .before .before .before .before .before .before .before .before .before .before .before .before .before .loop .inv .0) (c .before .before .before .before .before .before .before .before .before .before .before .before .read-product .ensures) (not-false _ (c .before .before .before .before .before .before .before .before .if1 .left)) (c .before .before .before .before .before .before .joined-sum .result) _ (c .before .before .before .before .before .before .joined-sum .ensures .0) (c .before .before .before .before .before .before .joined-sum .ensures .1)) (sym (ap (λ b. eqb b 43 || eqb b 45) (c .before .before .before .byte-at .ensures)) ∙ sym (c .before .before .is-sign .ensures) ∙ not-false _ (c .before .if2 .left)) _ _ (c .before .before .before .byte-at .ensures) (c .beyond .ensures), (c .before .before .before .before .before .before .joined-sum .kept .0) ∙ (c .before .before .before .before .before .before .before .before .before .before .before .before .read-product .kept .1 .0) ∙ (c .before .before .before .before .before .before .before .before .before .before .before .before .before .before .loop .inv .1))
 
 pub +read-atom+read-bracket+read-factor+read-power+read-product+read-sum-spec :
     {M : Type 1} → statement M

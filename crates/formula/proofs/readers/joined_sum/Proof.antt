@@ -1,45 +1,32 @@
-use Prim.Native.Nat.{_*_, _+_, _%_}
-use mathlib.Core.Path.{ap₂}
-use Rattle.formula.specs.Readers.{finding, put}
-use mathlib.Core.Path.{_≡_, _∙_, sym, ap, refl}
-use native.Mathlib.Omega.{arith}
-use borrow.Author.Tests.{lt-ltb, le-ltb, le-leb, lt-leb, eq-eqb, ne-eqb, not-true, not-false}
+-- `joined_sum` notes a sum or a difference, or passes the only product on.
+use mathlib.Core.Path.{_∙_, ap}
+use Prim.Native.Nat.{_+_, _%_}
+use borrow.Author.Tests.{eq-eqb, ne-eqb}
 use borrow.Author.Needs.{needs}
+use Rattle.formula.specs.Readers.{finding, put}
 use Rattle.formula.proofs.readers.joined_sum.Statement.{statement}
 use Rattle.formula.proofs.readers.joined_sum.Tie as tie
-use Rattle.formula.proofs.readers.joined_sum.Reads as reads
-use Rattle.formula.proofs.readers.joined_sum.Lts as lts
-use Rattle.formula.proofs.readers.either.Reads as either-reads
-use Rattle.formula.proofs.readers.noted.Reads as noted-reads
-use Rattle.formula.proofs.readers.sum_kind.Reads as sum-kind-reads
 
--- src/readers.rt:240:9
 returns : tie.Need-returns
-returns c = (rw (eq-eqb ((c .before .before .args .sign)) 0 ((c .if1 .taken))), rw (eq-eqb ((c .before .before .args .sign)) 0 ((c .if1 .taken))))
+returns c = (rw (eq-eqb (c .before .before .args .sign) 0 (c .if1 .taken)), rw (eq-eqb (c .before .before .args .sign) 0 (c .if1 .taken)))
 
--- src/readers.rt:242:9
 sum-kind-requires : tie.Need-sum-kind-requires
 sum-kind-requires c κs = search needs
 
--- src/readers.rt:243:26
 either-requires : tie.Need-either-requires
 either-requires c κs = search needs
 
--- src/readers.rt:243:66
 add-noted : tie.Need-add-noted
 add-noted c = search needs
 
--- src/readers.rt:243:5
 noted-requires : tie.Need-noted-requires
 noted-requires c κs = search needs
 
--- src/readers.rt:232:1
 same-length : tie.Need-same-length
 same-length c = search needs
 
--- src/readers.rt:232:1
 returns-2 : tie.Need-returns-2
-returns-2 c = (rw (ne-eqb ((c .before .before .before .before .before .before .before .before .before .before .args .sign)) 0 ((c .before .before .before .before .before .before .before .before .if1 .left))) ((c .before .before .noted .ensures .0) ∙ ap (λ b. finding b (((c .before .before .before .before .before .before .before .before .before .before .args .left .odd) + (c .before .before .before .before .before .before .before .before .before .before .args .right .odd)) % 2) ((c .before .before .before .before .before .before .before .before .before .before .args .right .at)) ((c .before .before .before .before .before .before .before .before .before .before .args .right .nodes) + 1) ((c .before .before .before .before .before .before .before .before .before .before .args .right .fault))) ((c .before .before .before .before .before .either .ensures))), rw (ne-eqb ((c .before .before .before .before .before .before .before .before .before .before .args .sign)) 0 ((c .before .before .before .before .before .before .before .before .if1 .left))) ((c .before .before .noted .ensures .1) ∙ ap (λ k. put ((c .before .before .before .before .before .before .before .before .before .before .args .tree .now)) ((c .before .before .before .before .before .before .before .before .before .before .args .right .nodes)) k 0) ((c .before .before .before .before .before .before .before .sum-kind .ensures))))
+returns-2 c = (rw (ne-eqb (c .before .before .before .before .before .before .before .before .before .before .args .sign) 0 (c .before .before .before .before .before .before .before .before .if1 .left)) ((c .before .before .noted .ensures .0) ∙ ap (λ b. finding b (((c .before .before .before .before .before .before .before .before .before .before .args .left .odd) + (c .before .before .before .before .before .before .before .before .before .before .args .right .odd)) % 2) (c .before .before .before .before .before .before .before .before .before .before .args .right .at) ((c .before .before .before .before .before .before .before .before .before .before .args .right .nodes) + 1) (c .before .before .before .before .before .before .before .before .before .before .args .right .fault)) (c .before .before .before .before .before .either .ensures)), rw (ne-eqb (c .before .before .before .before .before .before .before .before .before .before .args .sign) 0 (c .before .before .before .before .before .before .before .before .if1 .left)) ((c .before .before .noted .ensures .1) ∙ ap (λ k. put (c .before .before .before .before .before .before .before .before .before .before .args .tree .now) (c .before .before .before .before .before .before .before .before .before .before .args .right .nodes) k 0) (c .before .before .before .before .before .before .before .sum-kind .ensures)))
 
 pub joined-sum-spec : {M : Type 1} → statement M
 joined-sum-spec =

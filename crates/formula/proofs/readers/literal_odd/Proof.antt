@@ -1,23 +1,17 @@
-use mathlib.Core.Path.{_≡_, _∙_, sym, ap, refl}
-use native.Mathlib.Omega.{arith}
-use borrow.Author.Tests.{lt-ltb, le-ltb, le-leb, lt-leb, eq-eqb, ne-eqb}
+-- `literal_odd` is the parity of a literal power.
+use borrow.Author.Tests.{eq-eqb, ne-eqb}
 use borrow.Author.Needs.{needs}
 use Rattle.formula.proofs.readers.literal_odd.Statement.{statement}
 use Rattle.formula.proofs.readers.literal_odd.Tie as tie
-use Rattle.formula.proofs.readers.literal_odd.Reads as reads
-use Rattle.formula.proofs.readers.literal_odd.Lts as lts
 
--- src/readers.rt:122:9
 returns : tie.Need-returns
 returns c = search needs
 
--- src/readers.rt:125:9
 returns-2 : tie.Need-returns-2
-returns-2 c = rw ((c .before .before .if1 .left), eq-eqb ((c .before .before .before .args .number .value)) 0 ((c .if2 .taken)))
+returns-2 c = rw ((c .before .before .if1 .left), eq-eqb (c .before .before .before .args .number .value) 0 (c .if2 .taken))
 
--- src/readers.rt:118:1
 returns-3 : tie.Need-returns-3
-returns-3 c = rw ((c .before .before .if1 .left), ne-eqb ((c .before .before .before .args .number .value)) 0 ((c .if2 .left)))
+returns-3 c = rw ((c .before .before .if1 .left), ne-eqb (c .before .before .before .args .number .value) 0 (c .if2 .left))
 
 pub literal-odd-spec : {M : Type 1} → statement M
 literal-odd-spec = tie.close (tie.spec returns returns-2 returns-3)

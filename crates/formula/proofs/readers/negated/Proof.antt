@@ -1,16 +1,14 @@
+-- `negated` puts a node for each minus sign. Invariant: i nodes are put and counted.
+use mathlib.Core.Path.{_≡_, _∙_, ap, refl}
+use Prim.Native.Nat.{_+_, _-_, _≤_}
+use native.Mathlib.Omega.{arith}
+use lib.ListN.{length}
+use borrow.Author.Needs.{needs}
 use Rattle.formula.specs.declared.readers.Found.{Found}
 use Rattle.formula.proofs.Readings.{negated-starts, negated-goes-on, negated-done, minus-put}
-use mathlib.Core.Path.{_≡_, _∙_, sym, ap, refl}
-use Prim.Native.Nat.{ℕ, _+_, _-_, _<_, _≤_}
-use native.Mathlib.Omega.{arith}
-use lib.ListN.{length, getD, drop}
-use Rattle.formula.specs.Readers.{wroteMinus, finding, put}
-use borrow.Author.Needs.{needs}
+use Rattle.formula.specs.Readers.{wroteMinus, finding}
 use Rattle.formula.proofs.readers.negated.Statement.{statement}
 use Rattle.formula.proofs.readers.negated.Tie as tie
-use Rattle.formula.proofs.readers.negated.Reads as reads
-use Rattle.formula.proofs.readers.negated.Lts as lts
-use Rattle.formula.proofs.readers.noted.Reads as noted-reads
 
 abbrev Inv-loop : tie.InvT-loop
 Inv-loop tree₀ signs found₀ i₀ tree found i = (i ≤ signs) × (found ≡ finding (found₀ .variable) (found₀ .odd) (found₀ .at) (found₀ .nodes + i) (found₀ .fault)) × (tree ≡ wroteMinus i (found₀ .nodes) tree₀) × (length tree ≡ length tree₀)
@@ -18,34 +16,27 @@ Inv-loop tree₀ signs found₀ i₀ tree found i = (i ≤ signs) × (found ≡ 
 abbrev μ-loop : tie.MeasureT-loop
 μ-loop tree₀ signs found₀ i₀ tree found i = signs - i
 
--- src/readers.rt:159:5
 loop-holds : tie.Need-loop-holds Inv-loop μ-loop
 unfolding wroteMinus
-loop-holds c = (omega arith, negated-starts ((c .before .args .power)) ((c .before .pre .0)), refl, refl)
+loop-holds c = (omega arith, negated-starts (c .before .args .power) (c .before .pre .0), refl, refl)
 
--- src/readers.rt:160:13
 noted-requires : tie.Need-noted-requires Inv-loop μ-loop
-noted-requires c κs = let so : (c .before .before .loop .found .nodes) ≡ (c .before .before .before .before .args .power .nodes) + (c .before .before .loop .i) = ap (λ (f : Found). f .nodes) ((c .before .before .loop .inv .1)) in omega (arith, (c .before .before .before .before .pre .1), (c .before .before .loop .inv .0), (c .before .loop-test .taken))
+noted-requires c κs = let so : (c .before .before .loop .found .nodes) ≡ (c .before .before .before .before .args .power .nodes) + (c .before .before .loop .i) = ap (λ (f : Found). f .nodes) (c .before .before .loop .inv .1) in omega (arith, (c .before .before .before .before .pre .1), (c .before .before .loop .inv .0), (c .before .loop-test .taken))
 
--- src/readers.rt:162:9
 add-i : tie.Need-add-i Inv-loop μ-loop
 add-i c = search needs
 
--- src/readers.rt:159:5
 loop-less : tie.Need-loop-less Inv-loop μ-loop
 loop-less c = search needs
 
--- src/readers.rt:159:5
 loop-again : tie.Need-loop-again Inv-loop μ-loop
-loop-again c = (omega arith, negated-goes-on ((c .before .before .before .before .before .before .before .args .power)) ((c .before .before .before .before .before .loop .found)) ((c .before .before .noted .result)) ((c .before .before .before .before .before .loop .i)) ((c .before .before .before .before .before .loop .inv .1)) ((c .before .before .noted .ensures .0)), minus-put ((c .before .before .before .before .before .before .before .args .power)) ((c .before .before .before .before .before .loop .found)) ((c .before .before .before .before .before .loop .i)) _ _ _ ((c .before .before .before .before .before .loop .inv .1)) ((c .before .before .before .before .before .loop .inv .2)) ((c .before .before .noted .ensures .1)), (c .before .before .noted .kept .0) ∙ (c .before .before .before .before .before .loop .inv .3))
+loop-again c = (omega arith, negated-goes-on (c .before .before .before .before .before .before .before .args .power) (c .before .before .before .before .before .loop .found) (c .before .before .noted .result) (c .before .before .before .before .before .loop .i) (c .before .before .before .before .before .loop .inv .1) (c .before .before .noted .ensures .0), minus-put (c .before .before .before .before .before .before .before .args .power) (c .before .before .before .before .before .loop .found) (c .before .before .before .before .before .loop .i) _ _ _ (c .before .before .before .before .before .loop .inv .1) (c .before .before .before .before .before .loop .inv .2) (c .before .before .noted .ensures .1), (c .before .before .noted .kept .0) ∙ (c .before .before .before .before .before .loop .inv .3))
 
--- src/readers.rt:151:1
 same-length : tie.Need-same-length Inv-loop μ-loop
 same-length c = (c .before .loop .inv .3)
 
--- src/readers.rt:151:1
 returns : tie.Need-returns Inv-loop μ-loop
-returns c = (negated-done ((c .before .before .before .args .power)) ((c .before .loop .found)) ((c .before .loop .i)) ((c .before .before .before .args .signs)) ((c .before .loop .inv .1)) (omega arith), (c .before .loop .inv .2) ∙ ap (λ k. wroteMinus k (c .before .before .before .args .power .nodes) (c .before .before .before .args .tree .now)) (omega arith))
+returns c = (negated-done (c .before .before .before .args .power) (c .before .loop .found) (c .before .loop .i) (c .before .before .before .args .signs) (c .before .loop .inv .1) (omega arith), (c .before .loop .inv .2) ∙ ap (λ k. wroteMinus k (c .before .before .before .args .power .nodes) (c .before .before .before .args .tree .now)) (omega arith))
 
 pub negated-spec : {M : Type 1} → statement M
 negated-spec =

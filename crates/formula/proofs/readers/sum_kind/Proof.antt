@@ -1,19 +1,13 @@
-use mathlib.Core.Path.{_≡_, _∙_, sym, ap, refl}
-use native.Mathlib.Omega.{arith}
-use borrow.Author.Tests.{lt-ltb, le-ltb, le-leb, lt-leb, eq-eqb, ne-eqb, not-true, not-false}
-use borrow.Author.Needs.{needs}
+-- `sum_kind` is 3 for + and 4 for -.
+use borrow.Author.Tests.{eq-eqb, ne-eqb}
 use Rattle.formula.proofs.readers.sum_kind.Statement.{statement}
 use Rattle.formula.proofs.readers.sum_kind.Tie as tie
-use Rattle.formula.proofs.readers.sum_kind.Reads as reads
-use Rattle.formula.proofs.readers.sum_kind.Lts as lts
 
--- src/readers.rt:250:9
 returns : tie.Need-returns
-returns c = rw (eq-eqb ((c .before .args .sign)) 43 ((c .if1 .taken)))
+returns c = rw (eq-eqb (c .before .args .sign) 43 (c .if1 .taken))
 
--- src/readers.rt:246:1
 returns-2 : tie.Need-returns-2
-returns-2 c = rw (ne-eqb ((c .before .args .sign)) 43 ((c .if1 .left)))
+returns-2 c = rw (ne-eqb (c .before .args .sign) 43 (c .if1 .left))
 
 pub sum-kind-spec : {M : Type 1} → statement M
 sum-kind-spec = tie.close (tie.spec returns returns-2)
