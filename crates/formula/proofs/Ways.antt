@@ -1,5 +1,5 @@
 -- Each way through the readers of the cycle: from what the called readers answer to what the reader's own contract says.
-use mathlib.Core.Path.{subst, subst₃, _≡_, refl, sym, ap, ap₂, _∙_}
+use mathlib.Core.Path.{_≡_, refl, sym, ap, ap₂, _∙_}
 use mathlib.Core.Bool.{Bool, true, false, cond, _||_, true≢false}
 use mathlib.Core.List.{List}
 use Prim.Native.Nat.{ℕ, zero, suc, _+_, _-_, _*_, _%_, _^_, _≤_, _<_, min}
@@ -13,7 +13,7 @@ use Rattle.formula.specs.declared.numbers.Numeral.{Numeral}
 use Rattle.formula.specs.Bytes.{Digit}
 use Rattle.formula.specs.Tree.{Tree, number, variable, sum, difference, product, minus, literalPower, raise, nodes, holdsX}
 use Rattle.formula.specs.Scan.{Byte, plusByte, minusByte, starByte, caretByte, openByte, closeByte, xByte, zeroByte, digitByte, otherByte, byteOf, PendingSum, noSum, adding, subtracting, PendingProduct, noProduct, multiplying, Level, level, Outer, bottom, inBrackets, inExponent, fresh, State, operand, atomed, afterCaret, powered, stopped, negatives, productWith, sumWith, closed, afterPower, afterAtom, beforeOperand, beforeExponent, step, stops, ended, ending, run}
-use Rattle.formula.specs.Readers.{kept, parity, faultCode, noFault, literalFault, baseFault, faulted, put, wrote, wroteMinus, stopping, finding, literalFound, baseFound, productFound, sumFound, found, Read, fails, gets, Anything, NoStar, NoSign, InSum, inSum, Enclosing, brackets, exponent, opened, enclosed, SumRead, ProductRead, PowerRead, AtomRead, BracketRead, PartRead, bracketed, plain, NumberRead, MinusSigns}
+use Rattle.formula.specs.Readers.{kept, parity, faultCode, noFault, literalFault, baseFault, faulted, put, wrote, wroteMinus, stopping, finding, literalFound, productFound, sumFound, found, Read, fails, gets, Anything, NoStar, NoSign, InSum, inSum, Enclosing, brackets, exponent, opened, enclosed, SumRead, ProductRead, PowerRead, AtomRead, BracketRead, NumberRead, MinusSigns}
 use Rattle.formula.proofs.Scanning.{Is, byte-is}
 use Rattle.formula.proofs.Steps.{inside, run-byte, run-same, run-stop}
 use Rattle.formula.proofs.Readings.{odd-product}
@@ -768,90 +768,3 @@ sum-place sign left right r e = go (eqb sign 0) e
     go : (t : Bool) → r ≡ cond t right (sumFound left right) → r .at ≡ right .at
     go true q = ap (λ (x : Found). x .at) q
     go false q = ap (λ (x : Found). x .at) q
-
--- ---- a power read by one call for base and exponent
-part-atom : {l : List ℕ} {at n f : ℕ} {out : List ℕ} {r : Found} {now : List ℕ} → PartRead l at n f out r now → AtomRead l at n f out r now
-part-atom {l} {at} {n} {f} {out} {r} {now} (bracketed e read) = atom-bracket l at n f out r now e read
-part-atom (plain e read) = read
-
-part-bracket : {l : List ℕ} {at n f : ℕ} {out : List ℕ} {r : Found} {now : List ℕ} → PartRead l at n f out r now → getD l at 0 ≡ 40
-    → BracketRead l at n f out r now
-part-bracket (bracketed e read) opens = read
-part-bracket (plain e read) opens = absurd (e opens)
-
--- Before the base, or before the bracketed exponent of the base b.
-pub data PowerSoFar (l : List ℕ) (at n f : ℕ) (out : List ℕ) (base : Found) (place : ℕ) (now : List ℕ) : Type 0 where
-  the-base : place ≡ at → base ≡ finding false 0 at n f → now ≡ out → PowerSoFar l at n f out base place now
-  the-exponent : (b : Found) → Base l at n f out b now → getD l (b .at) 0 ≡ 94 → getD l (b .at + 1) 0 ≡ 40
-      → place ≡ b .at + 1 → base ≡ baseFound b → PowerSoFar l at n f out base place now
-
--- What the call asks.
-pub record PartAsked (l : List ℕ) (at n : ℕ) (base : Found) (place : ℕ) : Type 0 where
-  pub after : at ≤ place
-  pub inside : place ≤ length l
-  pub few : n ≤ at → base .nodes ≤ place
-  pub no-minus : (getD l at 0 ≡ 45 → ⊥) → getD l place 0 ≡ 45 → ⊥
-
-pub part-asked : {l : List ℕ} {at n f : ℕ} {out : List ℕ} {base : Found} {place : ℕ} {now : List ℕ} → at ≤ length l
-    → PowerSoFar l at n f out base place now → PartAsked l at n base place
-part-asked {l} {base = base} h (the-base e q w) =
-    let count : base .nodes ≡ _ = ap (λ (x : Found). x .nodes) q in
-    record { after = omega arith; inside = omega arith; few = λ k. omega arith; no-minus = λ none s. none (ap (λ p. getD l p 0) (sym e) ∙ s) }
-part-asked {l} {base = base} h (the-exponent b g hat opens e q) =
-    let count : base .nodes ≡ b .nodes = ap (λ (x : Found). x .nodes) q in
-    record {
-      after = omega (arith, g .onward);
-      inside = omega (arith, inside l (b .at + 1) (omega arith));
-      few = λ k. omega (arith, g .counted, g .room);
-      no-minus = λ none s. absurd (omega (arith, ap (λ p. getD l p 0) e));
-    }
-
-module _ {l : List ℕ} {at n f : ℕ} {out : List ℕ} {base : Found} {place : ℕ} {now : List ℕ} {part : Found} {soon : List ℕ}
-    (so : PowerSoFar l at n f out base place now) (read : PartRead l place (base .nodes) (base .fault) now part soon) where
-  -- The part, read where the base is asked.
-  as-base : place ≡ at → base ≡ finding false 0 at n f → now ≡ out → AtomRead l at n f out part soon
-  as-base e q w =
-      subst (λ p. AtomRead l p n f out part soon) e
-      (subst₃ (λ k g o. AtomRead l place k g o part soon) (ap (λ (x : Found). x .nodes) q) (ap (λ (x : Found). x .fault) q) w (part-atom read))
-
-  as-exponent : (b : Found) → place ≡ b .at + 1 → base ≡ baseFound b → getD l (b .at + 1) 0 ≡ 40
-      → BracketRead l (b .at + 1) (b .nodes) (min (b .fault) (baseFault (b .variable) (b .odd) (b .at))) now part soon
-  as-exponent b e q opens =
-      subst₃ (λ p k g. BracketRead l p k g now part soon) e (ap (λ (x : Found). x .nodes) q) (ap (λ (x : Found). x .fault) q)
-      (part-bracket read (ap (λ p. getD l p 0) e ∙ opens))
-
-  pub part-lost : part .ok ≡ false → PowerRead l at n f out part soon
-  part-lost no-tree = go so
-    where
-      go : PowerSoFar l at n f out base place now → PowerRead l at n f out part soon
-      go (the-base e q w) = power-lost l at n f out part soon (as-base e q w) no-tree
-      go (the-exponent b g hat opens e q) =
-          raise-lost l at n f out b now g hat opens (min (b .fault) (baseFault (b .variable) (b .odd) (b .at))) refl part soon (as-exponent b e q opens) no-tree
-
-  pub part-base : place ≤ at → part .ok ≡ true → Base l at n f out part soon
-  part-base first some = go so
-    where
-      go : PowerSoFar l at n f out base place now → Base l at n f out part soon
-      go (the-base e q w) = got (as-base e q w) some
-      go (the-exponent b g hat opens e q) = absurd (omega (arith, g .onward))
-
-  pub part-raise : at < place → part .ok ≡ true → (r : Found) (then : List ℕ)
-      → r ≡ finding (base .variable || part .variable) 1 (part .at) (part .nodes + 1) (part .fault) → then ≡ put soon (part .nodes) 8 0
-      → PowerRead l at n f out r then
-  part-raise second some r then is w = go so
-    where
-      go : PowerSoFar l at n f out base place now → PowerRead l at n f out r then
-      go (the-base e q v) = absurd (omega arith)
-      go (the-exponent b g hat opens e q) =
-          power-raise l at n f out b now g hat opens (min (b .fault) (baseFault (b .variable) (b .odd) (b .at))) refl part soon (as-exponent b e q opens) some
-          r then (is ∙ ap (λ x. finding (x || part .variable) 1 (part .at) (part .nodes + 1) (part .fault)) (ap (λ (x : Found). x .variable) q)) w
-
-  -- The place moves on.
-  pub part-onward : part .ok ≡ true → place < part .at
-  part-onward some = got (part-atom read) some .onward
-
-  pub part-inside : part .ok ≡ true → part .at ≤ length l
-  part-inside some = got (part-atom read) some .inside
-
-  pub part-few : n ≤ at → at ≤ length l → part .ok ≡ true → part .nodes ≤ part .at
-  part-few h short some = got-few (got (part-atom read) some) (part-asked short so .few h)

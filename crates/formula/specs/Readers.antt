@@ -89,10 +89,6 @@ literalFound base num =
     finding (base .variable) (cond (num .over) (base .odd) (cond (eqb (num .value) 0) 1 (base .odd))) (num .at) (base .nodes + 1)
     (min (base .fault) (cond (num .over) (faultCode 5 (base .at + 1)) (cond (leb (num .value) 64) noFault (faultCode 6 (base .at + 1)))))
 
-abbrev pub baseFound : Found → Found
-baseFound part =
-    finding (part .variable) (part .odd) (part .at) (part .nodes) (min (part .fault) (baseFault (part .variable) (part .odd) (part .at)))
-
 abbrev pub productFound : Found → Found → Found
 productFound left right =
     finding (left .variable || right .variable) (left .odd * right .odd) (right .at) (right .nodes + 1) (right .fault)
@@ -158,11 +154,6 @@ AtomRead = Read Level operand atomed Anything
 -- The sum inside the brackets begins after the place of the (.
 abbrev pub BracketRead : List ℕ → ℕ → ℕ → ℕ → List ℕ → Found → List ℕ → Type 0
 BracketRead l at = Read Enclosing opened enclosed Anything l (at + 1)
-
--- An atom, read as what stands in brackets where it begins with a (.
-pub data PartRead (l : List ℕ) (at n f : ℕ) (out : List ℕ) (r : Found) (now : List ℕ) : Type 0 where
-  bracketed : getD l at 0 ≡ 40 → BracketRead l at n f out r now → PartRead l at n f out r now
-  plain : (getD l at 0 ≡ 40 → ⊥) → AtomRead l at n f out r now → PartRead l at n f out r now
 
 -- A number at a place: its value v, and where the scan stands after it, as an atom and as a literal exponent.
 pub record NumberRead (l : List ℕ) (at : ℕ) (r : Numeral) : Type 0 where

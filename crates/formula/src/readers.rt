@@ -9,7 +9,7 @@ ghost use mathlib.Core.Bool.{Bool, true, false, cond, _||_};
 ghost use Prim.Native.Nat.{ℕ, _+_, _-_, _*_, _%_, _^_, _<_, _≤_, min};
 ghost use lib.Dec.{eqb, leb};
 ghost use lib.ListN.{length, getD};
-ghost use Rattle.formula.specs.Readers.{MinusSigns, noFault, faultCode, baseFault, put, wroteMinus, stopping, finding, literalFound, baseFound, productFound, sumFound, SumRead, ProductRead, PowerRead, PartRead, BracketRead};
+ghost use Rattle.formula.specs.Readers.{MinusSigns, noFault, faultCode, baseFault, put, wroteMinus, stopping, finding, literalFound, productFound, sumFound, SumRead, ProductRead, PowerRead, AtomRead, BracketRead};
 
 // No fault: above the code of any.
 const NO_FAULT: u64 = 18432;
@@ -325,7 +325,7 @@ fn read_atom(text: &[u8], tree: &mut [u64], at: usize, nodes: usize, fault: u64)
     requires { ⌜ at ≤ length (now text) ⌝ }
     requires { ⌜ nodes ≤ at ⌝ }
     requires { ⌜ (getD (now text) at 0 ≡ 45 → ⊥) ⌝ }
-    ensures { λ r. ⌜ PartRead (now (text .entry)) at nodes fault (now (tree .entry)) r (now (tree .exit)) ⌝ }
+    ensures { λ r. ⌜ AtomRead (now (text .entry)) at nodes fault (now (tree .entry)) r (now (tree .exit)) ⌝ }
 {
     let byte = byte_at(text, at);
     if byte == 40 {
@@ -351,62 +351,45 @@ fn read_atom(text: &[u8], tree: &mut [u64], at: usize, nodes: usize, fault: u64)
     )
 }
 
-// What was found, as the base of a raise: refusal 8 is judged here.
-fn raised_base(part: Found) -> Found
-    requires { ⌜ part .at < 2 ^ 63 ⌝ }
-    ensures { λ r. ⌜ r ≡ baseFound part ⌝ }
-{
-    Found {
-        ok: true,
-        variable: part.variable,
-        odd: part.odd,
-        at: part.at,
-        nodes: part.nodes,
-        fault: lesser(part.fault, base_fault(part.variable, part.odd, part.at)),
-    }
-}
-
-// A power: an atom, perhaps followed by one ^ and an exponent, a number or a sum in round brackets. Base and bracketed exponent are
-// read by one call, the second in a second turn: each place that calls costs stack at every depth of brackets.
+// A power: an atom, perhaps followed by one ^ and an exponent, a number or a sum in round brackets.
 fn read_power(text: &[u8], tree: &mut [u64], at: usize, nodes: usize, fault: u64) -> Found
     requires { ⌜ at ≤ length (now text) ⌝ }
     requires { ⌜ nodes ≤ at ⌝ }
     requires { ⌜ (getD (now text) at 0 ≡ 45 → ⊥) ⌝ }
     ensures { λ r. ⌜ PowerRead (now (text .entry)) at nodes fault (now (tree .entry)) r (now (tree .exit)) ⌝ }
 {
-    let mut base = starting(at, nodes, fault);
-    let mut place = at;
-    loop {
-        let part = read_atom(text, tree, place, base.nodes, base.fault);
-        if !part.ok {
-            return part;
-        }
-        if at < place {
-            return noted(
-                tree,
-                8,
-                0,
-                either(base.variable, part.variable),
-                1,
-                part.at,
-                part.nodes,
-                part.fault,
-            );
-        }
-        let caret = part.at;
-        if byte_at(text, caret) != 94 {
-            return part;
-        }
-        place = caret + 1;
-        let byte = byte_at(text, place);
-        if is_digit(byte) {
-            return literal_power(tree, part, read_number(text, place));
-        }
-        if byte != 40 {
-            return stopped(place);
-        }
-        base = raised_base(part);
+    let base = read_atom(text, tree, at, nodes, fault);
+    if !base.ok {
+        return base;
     }
+    let caret = base.at;
+    if byte_at(text, caret) != 94 {
+        return base;
+    }
+    let place = caret + 1;
+    let byte = byte_at(text, place);
+    if is_digit(byte) {
+        let number = read_number(text, place);
+        return literal_power(tree, base, number);
+    }
+    if byte != 40 {
+        return stopped(place);
+    }
+    let least = lesser(base.fault, base_fault(base.variable, base.odd, caret));
+    let exponent = read_bracket(text, tree, place, base.nodes, least);
+    if !exponent.ok {
+        return exponent;
+    }
+    noted(
+        tree,
+        8,
+        0,
+        either(base.variable, exponent.variable),
+        1,
+        exponent.at,
+        exponent.nodes,
+        exponent.fault,
+    )
 }
 
 // A factor: any number of leading minus signs, then a power.

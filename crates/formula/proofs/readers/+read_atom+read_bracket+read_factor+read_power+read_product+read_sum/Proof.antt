@@ -1,7 +1,7 @@
 -- The readers meet their contracts together: the bytes left fall at each call, and at the same place the level does.
--- Each return is one way of proofs/Ways.antt; the loops carry the power, the product or the sum so far.
+-- Each return is one way of proofs/Ways.antt; the loops carry the product or the sum so far.
+use mathlib.Core.Bool.{_||_, false}
 use mathlib.Core.Path.{_≡_, _∙_, sym, ap, refl}
-use mathlib.Core.Bool.{false, _||_}
 use Prim.Native.Nat.{min, ℕ, _+_, _-_, _*_, _<_}
 use native.Mathlib.Omega.{arith}
 use lib.Dec.{eqb}
@@ -10,11 +10,11 @@ use borrow.Author.Tests.{not-true, not-false}
 use borrow.Author.Needs.{needs}
 use borrow.Fn.Kinds.{In}
 use borrow.Fn.PlainCycle.{Measures, is, falls, and}
-use Rattle.formula.specs.Readers.{finding, bracketed, plain}
+use Rattle.formula.specs.declared.readers.Found.{Found}
+use Rattle.formula.proofs.Ways.{got-odd, got-few, product-place, sum-place, got, atom-x, atom-number, atom-bracket, no-atom, power-lost, power-plain, power-literal, no-exponent, raise-lost, power-raise, factor-lost, factor-got, ProductSoFar, product-onward, product-starts, product-lost, product-joined, product-ends, product-goes-on, SumSoFar, sum-onward, sum-starts, sum-lost, sum-joined, sum-ends, sum-goes-on, bracket-lost, bracket-open, bracket-closed}
+use Rattle.formula.specs.Readers.{finding}
 use Rattle.formula.proofs.Steps.{inside}
 use Rattle.formula.proofs.Readings.{digit-test, no-digit-test}
-use Rattle.formula.proofs.Ways.{got, atom-x, atom-number, no-atom, power-plain, power-literal, no-exponent, factor-lost, factor-got, ProductSoFar, product-onward, product-starts, product-lost, product-joined, product-ends, product-goes-on, SumSoFar, sum-onward, sum-starts, sum-lost, sum-joined, sum-ends, sum-goes-on, bracket-lost, bracket-open, bracket-closed, got-odd, got-few, product-place, sum-place, PowerSoFar, the-base, the-exponent, part-asked, part-lost, part-base, part-raise, part-onward, part-inside, part-few}
-use Rattle.formula.specs.declared.readers.Found.{Found}
 use Rattle.formula.proofs.readers.+read_atom+read_bracket+read_factor+read_power+read_product+read_sum.{statement}
 use Rattle.formula.proofs.readers.+read_atom+read_bracket+read_factor+read_power+read_product+read_sum.Tie.{close}
 use Rattle.formula.proofs.readers.read_atom.Reads as read-atom
@@ -39,6 +39,7 @@ use Rattle.formula.proofs.numbers.byte_at.Reads as byte-at-reads
 use Rattle.formula.proofs.numbers.is_digit.Reads as is-digit-reads
 use Rattle.formula.proofs.numbers.read_number.Reads as read-number-reads
 use Rattle.formula.proofs.readers.after_minus_signs.Reads as after-minus-signs-reads
+use Rattle.formula.proofs.readers.base_fault.Reads as base-fault-reads
 use Rattle.formula.proofs.readers.beyond.Reads as beyond-reads
 use Rattle.formula.proofs.readers.either.Reads as either-reads
 use Rattle.formula.proofs.readers.is_sign.Reads as is-sign-reads
@@ -49,7 +50,6 @@ use Rattle.formula.proofs.readers.literal_power.Reads as literal-power-
 use Rattle.formula.proofs.readers.negated.Reads as negated-reads
 use Rattle.formula.proofs.readers.noted.Reads as noted-reads
 use Rattle.formula.proofs.readers.number_fault.Reads as number-fault-reads
-use Rattle.formula.proofs.readers.raised_base.Reads as raised-base-reads
 use Rattle.formula.proofs.readers.starting.Reads as starting-reads
 use Rattle.formula.proofs.readers.stopped.Reads as stopped-reads
 
@@ -155,7 +155,7 @@ read-atom-same-length : (t : ℕ) → read-atom-lts.Need-same-length (read-atom-
 read-atom-same-length t c = search needs
 
 read-atom-returns : (t : ℕ) → read-atom-lts.Need-returns (read-atom-claims t) (read-atom-at t) read-atom.Post
-read-atom-returns t c = bracketed (sym (c .before .before .before .before .before .byte-at .ensures) ∙ (c .before .before .before .before .if1 .taken)) (c .before .before .read-bracket .ensures)
+read-atom-returns t c = atom-bracket (c .before .before .before .before .before .before .before .before .args .text .now) (c .before .before .before .before .before .before .before .before .args .at) (c .before .before .before .before .before .before .before .before .args .nodes) (c .before .before .before .before .before .before .before .before .args .fault) _ _ _ (sym (c .before .before .before .before .before .byte-at .ensures) ∙ (c .before .before .before .before .if1 .taken)) (c .before .before .read-bracket .ensures)
 
 read-atom-add-noted : (t : ℕ) → read-atom-lts.Need-add-noted (read-atom-claims t) (read-atom-at t) read-atom.Post
 read-atom-add-noted t c = omega (arith, (c .before .before .before .before .before .before .pre .1 .0), (c .before .before .before .before .before .before .good .0 .0))
@@ -167,7 +167,7 @@ read-atom-same-length-2 : (t : ℕ) → read-atom-lts.Need-same-length-2 (read-a
 read-atom-same-length-2 t c = search needs
 
 read-atom-returns-2 : (t : ℕ) → read-atom-lts.Need-returns-2 (read-atom-claims t) (read-atom-at t) read-atom.Post
-read-atom-returns-2 t c = plain (λ e. (c .before .before .before .before .before .if1 .left) ((c .before .before .before .before .before .before .byte-at .ensures) ∙ e)) (atom-x (c .before .before .before .before .before .before .before .before .before .args .text .now) (c .before .before .before .before .before .before .before .before .before .args .at) (c .before .before .before .before .before .before .before .before .before .args .nodes) (c .before .before .before .before .before .before .before .before .before .args .fault) _ _ _ (sym (c .before .before .before .before .before .before .byte-at .ensures) ∙ (c .before .before .before .before .if2 .taken)) (c .before .before .noted .ensures .0) (c .before .before .noted .ensures .1))
+read-atom-returns-2 t c = atom-x (c .before .before .before .before .before .before .before .before .before .args .text .now) (c .before .before .before .before .before .before .before .before .before .args .at) (c .before .before .before .before .before .before .before .before .before .args .nodes) (c .before .before .before .before .before .before .before .before .before .args .fault) _ _ _ (sym (c .before .before .before .before .before .before .byte-at .ensures) ∙ (c .before .before .before .before .if2 .taken)) (c .before .before .noted .ensures .0) (c .before .before .noted .ensures .1)
 
 read-atom-is-digit-requires : (t : ℕ) → read-atom-lts.Need-is-digit-requires (read-atom-claims t) (read-atom-at t) read-atom.Post
 read-atom-is-digit-requires t c κs = search needs
@@ -176,7 +176,7 @@ read-atom-stopped-requires : (t : ℕ) → read-atom-lts.Need-stopped-requires (
 read-atom-stopped-requires t c κs = search needs
 
 read-atom-returns-3 : (t : ℕ) → read-atom-lts.Need-returns-3 (read-atom-claims t) (read-atom-at t) read-atom.Post
-read-atom-returns-3 t c = plain (λ e. (c .before .before .before .before .if1 .left) ((c .before .before .before .before .before .byte-at .ensures) ∙ e)) (no-atom (c .before .before .before .before .before .before .before .before .args .text .now) (c .before .before .before .before .before .before .before .before .args .at) (c .before .before .before .before .before .before .before .before .args .nodes) (c .before .before .before .before .before .before .before .before .args .fault) _ _ _ (c .before .before .before .before .before .before .before .before .pre .1 .1 .1) (λ e. (c .before .before .before .before .if1 .left) ((c .before .before .before .before .before .byte-at .ensures) ∙ e)) (λ e. (c .before .before .before .if2 .left) ((c .before .before .before .before .before .byte-at .ensures) ∙ e)) (λ d. no-digit-test (c .before .before .before .before .before .byte-at .result) (sym (c .before .before .is-digit .ensures) ∙ not-true _ (c .before .if3 .taken)) (rw (c .before .before .before .before .before .byte-at .ensures) d)) (c .stopped .ensures))
+read-atom-returns-3 t c = no-atom (c .before .before .before .before .before .before .before .before .args .text .now) (c .before .before .before .before .before .before .before .before .args .at) (c .before .before .before .before .before .before .before .before .args .nodes) (c .before .before .before .before .before .before .before .before .args .fault) _ _ _ (c .before .before .before .before .before .before .before .before .pre .1 .1 .1) (λ e. (c .before .before .before .before .if1 .left) ((c .before .before .before .before .before .byte-at .ensures) ∙ e)) (λ e. (c .before .before .before .if2 .left) ((c .before .before .before .before .before .byte-at .ensures) ∙ e)) (λ d. no-digit-test (c .before .before .before .before .before .byte-at .result) (sym (c .before .before .is-digit .ensures) ∙ not-true _ (c .before .if3 .taken)) (rw (c .before .before .before .before .before .byte-at .ensures) d)) (c .stopped .ensures)
 
 read-atom-read-number-requires : (t : ℕ) → read-atom-lts.Need-read-number-requires (read-atom-claims t) (read-atom-at t) read-atom.Post
 read-atom-read-number-requires t c κs = rw (← (c .before .before .before .before .byte-at .ensures)) (digit-test (c .before .before .before .before .byte-at .result) (sym (c .before .is-digit .ensures) ∙ not-false _ (c .if3 .left)))
@@ -194,7 +194,7 @@ read-atom-same-length-3 : (t : ℕ) → read-atom-lts.Need-same-length-3 (read-a
 read-atom-same-length-3 t c = search needs
 
 read-atom-returns-4 : (t : ℕ) → read-atom-lts.Need-returns-4 (read-atom-claims t) (read-atom-at t) read-atom.Post
-read-atom-returns-4 t c = plain (λ e. (c .before .before .before .before .before .before .before .before .before .before .if1 .left) ((c .before .before .before .before .before .before .before .before .before .before .before .byte-at .ensures) ∙ e)) (atom-number (c .before .before .before .before .before .before .before .before .before .before .before .before .before .before .args .text .now) (c .before .before .before .before .before .before .before .before .before .before .before .before .before .before .args .at) (c .before .before .before .before .before .before .before .before .before .before .before .before .before .before .args .nodes) (c .before .before .before .before .before .before .before .before .before .before .before .before .before .before .args .fault) _ _ _ (c .before .before .before .before .before .before .read-number .result) (c .before .before .before .before .before .before .read-number .ensures) ((c .before .before .noted2 .ensures .0) ∙ ap (λ g. finding false (c .before .before .before .before .before .before .read-number .result .odd) (c .before .before .before .before .before .before .read-number .result .at) ((c .before .before .before .before .before .before .before .before .before .before .before .before .before .before .args .nodes) + 1) g) ((c .before .before .before .before .lesser .ensures) ∙ ap (λ g. min (c .before .before .before .before .before .before .before .before .before .before .before .before .before .before .args .fault) g) (c .before .before .before .before .before .number-fault .ensures))) (c .before .before .noted2 .ensures .1))
+read-atom-returns-4 t c = atom-number (c .before .before .before .before .before .before .before .before .before .before .before .before .before .before .args .text .now) (c .before .before .before .before .before .before .before .before .before .before .before .before .before .before .args .at) (c .before .before .before .before .before .before .before .before .before .before .before .before .before .before .args .nodes) (c .before .before .before .before .before .before .before .before .before .before .before .before .before .before .args .fault) _ _ _ (c .before .before .before .before .before .before .read-number .result) (c .before .before .before .before .before .before .read-number .ensures) ((c .before .before .noted2 .ensures .0) ∙ ap (λ g. finding false (c .before .before .before .before .before .before .read-number .result .odd) (c .before .before .before .before .before .before .read-number .result .at) ((c .before .before .before .before .before .before .before .before .before .before .before .before .before .before .args .nodes) + 1) g) ((c .before .before .before .before .lesser .ensures) ∙ ap (λ g. min (c .before .before .before .before .before .before .before .before .before .before .before .before .before .before .args .fault) g) (c .before .before .before .before .before .number-fault .ensures))) (c .before .before .noted2 .ensures .1)
 
 abbrev read-bracket-claims : ℕ → read-bracket-lts.Claims
 read-bracket-claims t = (
@@ -273,22 +273,10 @@ read-factor-same-length-2 t c = search needs
 read-factor-returns-2 : (t : ℕ) → read-factor-lts.Need-returns-2 (read-factor-claims t) (read-factor-at t) read-factor.Post
 read-factor-returns-2 t c = factor-got (c .before .before .before .before .before .before .before .before .before .before .before .before .before .args .text .now) (c .before .before .before .before .before .before .before .before .before .before .before .before .before .args .at) (c .before .before .before .before .before .before .before .before .before .before .after-minus-signs .result) (c .before .before .before .before .before .before .before .before .before .before .before .before .before .args .nodes) (c .before .before .before .before .before .before .before .before .before .before .before .before .before .args .fault) _ _ _ (c .before .before .before .before .before .before .before .before .before .before .after-minus-signs .ensures) (c .before .before .before .before .before .before .before .before .read-power .ensures) (not-false _ (c .before .before .before .before .if1 .left)) _ _ (c .before .before .negated .ensures .0) (c .before .before .negated .ensures .1)
 
-abbrev read-power-Inv-loop : read-power-lts.InvT-loop
-read-power-Inv-loop text tree₀ at nodes fault base₀ place₀ tree base place = (PowerSoFar text at nodes fault tree₀ base place tree) × (length tree ≡ length tree₀)
-
-abbrev read-power-μ-loop : read-power-lts.MeasureT-loop
-read-power-μ-loop text tree₀ at nodes fault base₀ place₀ tree base place = length text - place
-
 abbrev read-power-claims : ℕ → read-power-lts.Claims
 read-power-claims t = (
-  starting-reads.Asked,
-  starting-reads.Learnt,
   read-atom-below t,
   read-atom.Post,
-  either-reads.Asked,
-  either-reads.Learnt,
-  noted-reads.Asked,
-  noted-reads.Learnt,
   byte-at-reads.Asked,
   byte-at-reads.Learnt,
   is-digit-reads.Asked,
@@ -299,84 +287,92 @@ read-power-claims t = (
   literal-power-reads.Learnt,
   stopped-reads.Asked,
   stopped-reads.Learnt,
-  raised-base-reads.Asked,
-  raised-base-reads.Learnt,
+  base-fault-reads.Asked,
+  base-fault-reads.Learnt,
+  lesser-reads.Asked,
+  lesser-reads.Learnt,
+  read-bracket-below t,
+  read-bracket.Post,
+  either-reads.Asked,
+  either-reads.Learnt,
+  noted-reads.Asked,
+  noted-reads.Learnt,
 )
 
-read-power-starting-requires : (t : ℕ) → read-power-lts.Need-starting-requires (read-power-claims t) (read-power-at t) read-power.Post read-power-Inv-loop read-power-μ-loop
-read-power-starting-requires t c κs = search needs
+read-power-read-atom-requires : (t : ℕ) → read-power-lts.Need-read-atom-requires (read-power-claims t) (read-power-at t) read-power.Post
+read-power-read-atom-requires t c κs = search needs
 
-read-power-loop-holds : (t : ℕ) → read-power-lts.Need-loop-holds (read-power-claims t) (read-power-at t) read-power.Post read-power-Inv-loop read-power-μ-loop
-read-power-loop-holds t c = (the-base refl (c .starting .ensures) refl, refl)
-
-read-power-read-atom-requires : (t : ℕ) → read-power-lts.Need-read-atom-requires (read-power-claims t) (read-power-at t) read-power.Post read-power-Inv-loop read-power-μ-loop
-read-power-read-atom-requires t c κs = let so = part-asked (c .before .before .before .before .before .pre .1 .0) (c .before .loop .inv .0) in (omega (arith, (c .before .before .before .before .before .pre .0), so .after), (so .inside, (so .few (c .before .before .before .before .before .pre .1 .1 .0), so .no-minus (c .before .before .before .before .before .pre .1 .1 .1))))
-
-read-power-same-length : (t : ℕ) → read-power-lts.Need-same-length (read-power-claims t) (read-power-at t) read-power.Post read-power-Inv-loop read-power-μ-loop
+read-power-same-length : (t : ℕ) → read-power-lts.Need-same-length (read-power-claims t) (read-power-at t) read-power.Post
 read-power-same-length t c = search needs
 
-read-power-returns : (t : ℕ) → read-power-lts.Need-returns (read-power-claims t) (read-power-at t) read-power.Post read-power-Inv-loop read-power-μ-loop
-read-power-returns t c = part-lost (c .before .before .before .before .before .before .loop .inv .0) (c .before .before .before .before .read-atom .ensures) (not-true _ (c .if1 .taken))
+read-power-returns : (t : ℕ) → read-power-lts.Need-returns (read-power-claims t) (read-power-at t) read-power.Post
+read-power-returns t c = power-lost (c .before .before .before .before .before .before .before .before .args .text .now) (c .before .before .before .before .before .before .before .before .args .at) (c .before .before .before .before .before .before .before .before .args .nodes) (c .before .before .before .before .before .before .before .before .args .fault) _ _ _ (c .before .before .before .before .read-atom .ensures) (not-true _ (c .if1 .taken))
 
-read-power-either-requires : (t : ℕ) → read-power-lts.Need-either-requires (read-power-claims t) (read-power-at t) read-power.Post read-power-Inv-loop read-power-μ-loop
-read-power-either-requires t c κs = search needs
-
-read-power-noted-requires : (t : ℕ) → read-power-lts.Need-noted-requires (read-power-claims t) (read-power-at t) read-power.Post read-power-Inv-loop read-power-μ-loop
-read-power-noted-requires t c κs = omega (arith, part-few (c .before .before .before .before .before .before .before .before .before .loop .inv .0) (c .before .before .before .before .before .before .before .read-atom .ensures) (c .before .before .before .before .before .before .before .before .before .before .before .before .before .pre .1 .1 .0) (c .before .before .before .before .before .before .before .before .before .before .before .before .before .pre .1 .0) (not-false _ (c .before .before .before .if1 .left)), part-inside (c .before .before .before .before .before .before .before .before .before .loop .inv .0) (c .before .before .before .before .before .before .before .read-atom .ensures) (not-false _ (c .before .before .before .if1 .left)), (c .before .before .before .before .before .before .before .before .before .before .before .before .before .good .0 .1))
-
-read-power-same-length-2 : (t : ℕ) → read-power-lts.Need-same-length-2 (read-power-claims t) (read-power-at t) read-power.Post read-power-Inv-loop read-power-μ-loop
-read-power-same-length-2 t c = search needs
-
-read-power-returns-2 : (t : ℕ) → read-power-lts.Need-returns-2 (read-power-claims t) (read-power-at t) read-power.Post read-power-Inv-loop read-power-μ-loop
-read-power-returns-2 t c = part-raise (c .before .before .before .before .before .before .before .before .before .before .before .before .loop .inv .0) (c .before .before .before .before .before .before .before .before .before .before .read-atom .ensures) (c .before .before .before .before .before .if2 .taken) (not-false _ (c .before .before .before .before .before .before .if1 .left)) _ _ ((c .before .before .noted .ensures .0) ∙ ap (λ b. finding b 1 (c .before .before .before .before .before .before .before .before .before .before .read-atom .result .at) ((c .before .before .before .before .before .before .before .before .before .before .read-atom .result .nodes) + 1) (c .before .before .before .before .before .before .before .before .before .before .read-atom .result .fault)) (c .before .before .before .either .ensures)) (c .before .before .noted .ensures .1)
-
-read-power-byte-at-requires : (t : ℕ) → read-power-lts.Need-byte-at-requires (read-power-claims t) (read-power-at t) read-power.Post read-power-Inv-loop read-power-μ-loop
+read-power-byte-at-requires : (t : ℕ) → read-power-lts.Need-byte-at-requires (read-power-claims t) (read-power-at t) read-power.Post
 read-power-byte-at-requires t c κs = search needs
 
-read-power-same-length-3 : (t : ℕ) → read-power-lts.Need-same-length-3 (read-power-claims t) (read-power-at t) read-power.Post read-power-Inv-loop read-power-μ-loop
-read-power-same-length-3 t c = search needs
+read-power-same-length-2 : (t : ℕ) → read-power-lts.Need-same-length-2 (read-power-claims t) (read-power-at t) read-power.Post
+read-power-same-length-2 t c = search needs
 
-read-power-returns-3 : (t : ℕ) → read-power-lts.Need-returns-3 (read-power-claims t) (read-power-at t) read-power.Post read-power-Inv-loop read-power-μ-loop
-read-power-returns-3 t c = power-plain (c .before .before .before .before .before .before .before .before .before .before .before .before .before .args .text .now) (c .before .before .before .before .before .before .before .before .before .before .before .before .before .args .at) (c .before .before .before .before .before .before .before .before .before .before .before .before .before .args .nodes) (c .before .before .before .before .before .before .before .before .before .before .before .before .before .args .fault) _ _ _ (part-base (c .before .before .before .before .before .before .before .before .before .loop .inv .0) (c .before .before .before .before .before .before .before .read-atom .ensures) (c .before .before .if2 .left) (not-false _ (c .before .before .before .if1 .left))) (λ e. (c .if3 .taken) ((c .before .byte-at .ensures) ∙ e))
+read-power-returns-2 : (t : ℕ) → read-power-lts.Need-returns-2 (read-power-claims t) (read-power-at t) read-power.Post
+read-power-returns-2 t c = power-plain (c .before .before .before .before .before .before .before .before .before .before .args .text .now) (c .before .before .before .before .before .before .before .before .before .before .args .at) (c .before .before .before .before .before .before .before .before .before .before .args .nodes) (c .before .before .before .before .before .before .before .before .before .before .args .fault) _ _ _ (got (c .before .before .before .before .before .before .read-atom .ensures) (not-false _ (c .before .before .if1 .left))) (λ e. (c .if2 .taken) ((c .before .byte-at .ensures) ∙ e))
 
-read-power-add-place : (t : ℕ) → read-power-lts.Need-add-place (read-power-claims t) (read-power-at t) read-power.Post read-power-Inv-loop read-power-μ-loop
-read-power-add-place t c = omega (arith, part-inside (c .before .before .before .before .before .before .before .before .before .loop .inv .0) (c .before .before .before .before .before .before .before .read-atom .ensures) (not-false _ (c .before .before .before .if1 .left)), (c .before .before .before .before .before .before .before .before .before .before .before .before .before .good .0 .0))
+read-power-add-place : (t : ℕ) → read-power-lts.Need-add-place (read-power-claims t) (read-power-at t) read-power.Post
+read-power-add-place t c = omega (arith, got (c .before .before .before .before .before .before .read-atom .ensures) (not-false _ (c .before .before .if1 .left)) .inside, (c .before .before .before .before .before .before .before .before .before .before .good .0 .0))
 
-read-power-byte-at-requires-2 : (t : ℕ) → read-power-lts.Need-byte-at-requires-2 (read-power-claims t) (read-power-at t) read-power.Post read-power-Inv-loop read-power-μ-loop
+read-power-byte-at-requires-2 : (t : ℕ) → read-power-lts.Need-byte-at-requires-2 (read-power-claims t) (read-power-at t) read-power.Post
 read-power-byte-at-requires-2 t c κs = search needs
 
-read-power-is-digit-requires : (t : ℕ) → read-power-lts.Need-is-digit-requires (read-power-claims t) (read-power-at t) read-power.Post read-power-Inv-loop read-power-μ-loop
+read-power-is-digit-requires : (t : ℕ) → read-power-lts.Need-is-digit-requires (read-power-claims t) (read-power-at t) read-power.Post
 read-power-is-digit-requires t c κs = search needs
 
-read-power-read-number-requires : (t : ℕ) → read-power-lts.Need-read-number-requires (read-power-claims t) (read-power-at t) read-power.Post read-power-Inv-loop read-power-μ-loop
-read-power-read-number-requires t c κs = rw (← (c .before .before .before .byte-at2 .ensures)) (digit-test (c .before .before .before .byte-at2 .result) (sym (c .before .before .is-digit .ensures) ∙ (c .before .if4 .taken)))
+read-power-read-number-requires : (t : ℕ) → read-power-lts.Need-read-number-requires (read-power-claims t) (read-power-at t) read-power.Post
+read-power-read-number-requires t c κs = rw (← (c .before .before .byte-at2 .ensures)) (digit-test (c .before .before .byte-at2 .result) (sym (c .before .is-digit .ensures) ∙ (c .if3 .taken)))
 
-read-power-literal-power-requires : (t : ℕ) → read-power-lts.Need-literal-power-requires (read-power-claims t) (read-power-at t) read-power.Post read-power-Inv-loop read-power-μ-loop
-read-power-literal-power-requires t c κs = (omega (arith, part-few (c .before .before .before .before .before .before .before .before .before .before .before .before .before .before .loop .inv .0) (c .before .before .before .before .before .before .before .before .before .before .before .before .read-atom .ensures) (c .before .before .before .before .before .before .before .before .before .before .before .before .before .before .before .before .before .before .pre .1 .1 .0) (c .before .before .before .before .before .before .before .before .before .before .before .before .before .before .before .before .before .before .pre .1 .0) (not-false _ (c .before .before .before .before .before .before .before .before .if1 .left)), part-inside (c .before .before .before .before .before .before .before .before .before .before .before .before .before .before .loop .inv .0) (c .before .before .before .before .before .before .before .before .before .before .before .before .read-atom .ensures) (not-false _ (c .before .before .before .before .before .before .before .before .if1 .left)), (c .before .before .before .before .before .before .before .before .before .before .before .before .before .before .before .before .before .before .good .0 .1)), omega (arith, inside (c .before .before .before .before .before .before .before .before .before .before .before .before .before .before .before .before .before .before .args .text .now) (c .before .before .before .before .before .before .before .before .before .before .before .before .read-atom .result .at) (omega (arith, (c .before .before .before .before .before .before .byte-at .ensures), (c .before .before .before .before .before .if3 .left))), (c .before .before .before .before .before .before .before .before .before .before .before .before .before .before .before .before .before .before .good .0 .1)))
+read-power-literal-power-requires : (t : ℕ) → read-power-lts.Need-literal-power-requires (read-power-claims t) (read-power-at t) read-power.Post
+read-power-literal-power-requires t c κs = let base = got (c .before .before .before .before .before .before .before .before .before .before .before .read-atom .ensures) (not-false _ (c .before .before .before .before .before .before .before .if1 .left)) in (omega (arith, base .counted, base .room, base .inside, (c .before .before .before .before .before .before .before .before .before .before .before .before .before .before .before .pre .1 .1 .0), (c .before .before .before .before .before .before .before .before .before .before .before .before .before .before .before .good .0 .1)), omega (arith, inside (c .before .before .before .before .before .before .before .before .before .before .before .before .before .before .before .args .text .now) (c .before .before .before .before .before .before .before .before .before .before .before .read-atom .result .at) (omega (arith, (c .before .before .before .before .before .before .byte-at .ensures), (c .before .before .before .before .before .if2 .left))), (c .before .before .before .before .before .before .before .before .before .before .before .before .before .before .before .good .0 .1)))
 
-read-power-same-length-4 : (t : ℕ) → read-power-lts.Need-same-length-4 (read-power-claims t) (read-power-at t) read-power.Post read-power-Inv-loop read-power-μ-loop
-read-power-same-length-4 t c = search needs
+read-power-same-length-3 : (t : ℕ) → read-power-lts.Need-same-length-3 (read-power-claims t) (read-power-at t) read-power.Post
+read-power-same-length-3 t c = search needs
 
-read-power-returns-4 : (t : ℕ) → read-power-lts.Need-returns-4 (read-power-claims t) (read-power-at t) read-power.Post read-power-Inv-loop read-power-μ-loop
-read-power-returns-4 t c = power-literal (c .before .before .before .before .before .before .before .before .before .before .before .before .before .before .before .before .before .before .before .before .before .args .text .now) (c .before .before .before .before .before .before .before .before .before .before .before .before .before .before .before .before .before .before .before .before .before .args .at) (c .before .before .before .before .before .before .before .before .before .before .before .before .before .before .before .before .before .before .before .before .before .args .nodes) (c .before .before .before .before .before .before .before .before .before .before .before .before .before .before .before .before .before .before .before .before .before .args .fault) _ (c .before .before .before .before .before .before .before .before .before .before .before .before .before .before .before .read-atom .result) _ (part-base (c .before .before .before .before .before .before .before .before .before .before .before .before .before .before .before .before .before .loop .inv .0) (c .before .before .before .before .before .before .before .before .before .before .before .before .before .before .before .read-atom .ensures) (c .before .before .before .before .before .before .before .before .before .before .if2 .left) (not-false _ (c .before .before .before .before .before .before .before .before .before .before .before .if1 .left))) (sym (c .before .before .before .before .before .before .before .before .before .byte-at .ensures) ∙ (c .before .before .before .before .before .before .before .before .if3 .left)) (c .before .before .before .read-number .result) (c .before .before .before .read-number .ensures) _ _ (c .before .before .literal-power .ensures .0) (c .before .before .literal-power .ensures .1)
+read-power-returns-3 : (t : ℕ) → read-power-lts.Need-returns-3 (read-power-claims t) (read-power-at t) read-power.Post
+read-power-returns-3 t c = power-literal (c .before .before .before .before .before .before .before .before .before .before .before .before .before .before .before .before .before .before .args .text .now) (c .before .before .before .before .before .before .before .before .before .before .before .before .before .before .before .before .before .before .args .at) (c .before .before .before .before .before .before .before .before .before .before .before .before .before .before .before .before .before .before .args .nodes) (c .before .before .before .before .before .before .before .before .before .before .before .before .before .before .before .before .before .before .args .fault) _ (c .before .before .before .before .before .before .before .before .before .before .before .before .before .before .read-atom .result) _ (got (c .before .before .before .before .before .before .before .before .before .before .before .before .before .before .read-atom .ensures) (not-false _ (c .before .before .before .before .before .before .before .before .before .before .if1 .left))) (sym (c .before .before .before .before .before .before .before .before .before .byte-at .ensures) ∙ (c .before .before .before .before .before .before .before .before .if2 .left)) (c .before .before .before .before .read-number .result) (c .before .before .before .before .read-number .ensures) _ _ (c .before .before .literal-power .ensures .0) (c .before .before .literal-power .ensures .1)
 
-read-power-stopped-requires : (t : ℕ) → read-power-lts.Need-stopped-requires (read-power-claims t) (read-power-at t) read-power.Post read-power-Inv-loop read-power-μ-loop
+read-power-stopped-requires : (t : ℕ) → read-power-lts.Need-stopped-requires (read-power-claims t) (read-power-at t) read-power.Post
 read-power-stopped-requires t c κs = search needs
 
-read-power-same-length-5 : (t : ℕ) → read-power-lts.Need-same-length-5 (read-power-claims t) (read-power-at t) read-power.Post read-power-Inv-loop read-power-μ-loop
+read-power-same-length-4 : (t : ℕ) → read-power-lts.Need-same-length-4 (read-power-claims t) (read-power-at t) read-power.Post
+read-power-same-length-4 t c = search needs
+
+read-power-returns-4 : (t : ℕ) → read-power-lts.Need-returns-4 (read-power-claims t) (read-power-at t) read-power.Post
+read-power-returns-4 t c = no-exponent (c .before .before .before .before .before .before .before .before .before .before .before .before .before .before .before .args .text .now) (c .before .before .before .before .before .before .before .before .before .before .before .before .before .before .before .args .at) (c .before .before .before .before .before .before .before .before .before .before .before .before .before .before .before .args .nodes) (c .before .before .before .before .before .before .before .before .before .before .before .before .before .before .before .args .fault) _ (c .before .before .before .before .before .before .before .before .before .before .before .read-atom .result) _ (got (c .before .before .before .before .before .before .before .before .before .before .before .read-atom .ensures) (not-false _ (c .before .before .before .before .before .before .before .if1 .left))) (sym (c .before .before .before .before .before .before .byte-at .ensures) ∙ (c .before .before .before .before .before .if2 .left)) (λ e. (c .before .if4 .taken) ((c .before .before .before .before .byte-at2 .ensures) ∙ e)) (λ d. no-digit-test (c .before .before .before .before .byte-at2 .result) (sym (c .before .before .before .is-digit .ensures) ∙ (c .before .before .if3 .left)) (rw (c .before .before .before .before .byte-at2 .ensures) d)) _ _ (c .stopped .ensures)
+
+read-power-base-fault-requires : (t : ℕ) → read-power-lts.Need-base-fault-requires (read-power-claims t) (read-power-at t) read-power.Post
+read-power-base-fault-requires t c κs = omega (arith, got (c .before .before .before .before .before .before .before .before .before .before .read-atom .ensures) (not-false _ (c .before .before .before .before .before .before .if1 .left)) .inside, (c .before .before .before .before .before .before .before .before .before .before .before .before .before .before .good .0 .1))
+
+read-power-lesser-requires : (t : ℕ) → read-power-lts.Need-lesser-requires (read-power-claims t) (read-power-at t) read-power.Post
+read-power-lesser-requires t c κs = search needs
+
+read-power-read-bracket-requires : (t : ℕ) → read-power-lts.Need-read-bracket-requires (read-power-claims t) (read-power-at t) read-power.Post
+read-power-read-bracket-requires t c κs = let base = got (c .before .before .before .before .before .before .before .before .before .before .before .before .before .read-atom .ensures) (not-false _ (c .before .before .before .before .before .before .before .before .before .if1 .left)) in (omega (arith, (c .before .before .before .before .before .before .before .before .before .before .before .before .before .before .before .before .before .pre .0), base .onward, base .inside, inside (c .before .before .before .before .before .before .before .before .before .before .before .before .before .before .before .before .before .args .text .now) (c .before .before .before .before .before .before .before .before .before .before .before .before .before .read-atom .result .at) (omega (arith, (c .before .before .before .before .before .before .before .before .byte-at .ensures), (c .before .before .before .before .before .before .before .if2 .left)))), (inside (c .before .before .before .before .before .before .before .before .before .before .before .before .before .before .before .before .before .args .text .now) ((c .before .before .before .before .before .before .before .before .before .before .before .before .before .read-atom .result .at) + 1) (omega (arith, (c .before .before .before .before .before .before .byte-at2 .ensures), (c .before .before .before .if4 .left))), omega (arith, base .counted, base .room, (c .before .before .before .before .before .before .before .before .before .before .before .before .before .before .before .before .before .pre .1 .1 .0))))
+
+read-power-same-length-5 : (t : ℕ) → read-power-lts.Need-same-length-5 (read-power-claims t) (read-power-at t) read-power.Post
 read-power-same-length-5 t c = search needs
 
-read-power-returns-5 : (t : ℕ) → read-power-lts.Need-returns-5 (read-power-claims t) (read-power-at t) read-power.Post read-power-Inv-loop read-power-μ-loop
-read-power-returns-5 t c = no-exponent (c .before .before .before .before .before .before .before .before .before .before .before .before .before .before .before .before .before .before .args .text .now) (c .before .before .before .before .before .before .before .before .before .before .before .before .before .before .before .before .before .before .args .at) (c .before .before .before .before .before .before .before .before .before .before .before .before .before .before .before .before .before .before .args .nodes) (c .before .before .before .before .before .before .before .before .before .before .before .before .before .before .before .before .before .before .args .fault) _ (c .before .before .before .before .before .before .before .before .before .before .before .before .read-atom .result) _ (part-base (c .before .before .before .before .before .before .before .before .before .before .before .before .before .before .loop .inv .0) (c .before .before .before .before .before .before .before .before .before .before .before .before .read-atom .ensures) (c .before .before .before .before .before .before .before .if2 .left) (not-false _ (c .before .before .before .before .before .before .before .before .if1 .left))) (sym (c .before .before .before .before .before .before .byte-at .ensures) ∙ (c .before .before .before .before .before .if3 .left)) (λ e. (c .before .if5 .taken) ((c .before .before .before .before .byte-at2 .ensures) ∙ e)) (λ d. no-digit-test (c .before .before .before .before .byte-at2 .result) (sym (c .before .before .before .is-digit .ensures) ∙ (c .before .before .if4 .left)) (rw (c .before .before .before .before .byte-at2 .ensures) d)) _ _ (c .stopped .ensures)
+read-power-returns-5 : (t : ℕ) → read-power-lts.Need-returns-5 (read-power-claims t) (read-power-at t) read-power.Post
+read-power-returns-5 t c = raise-lost (c .before .before .before .before .before .before .before .before .before .before .before .before .before .before .before .before .before .before .before .before .before .before .args .text .now) (c .before .before .before .before .before .before .before .before .before .before .before .before .before .before .before .before .before .before .before .before .before .before .args .at) (c .before .before .before .before .before .before .before .before .before .before .before .before .before .before .before .before .before .before .before .before .before .before .args .nodes) (c .before .before .before .before .before .before .before .before .before .before .before .before .before .before .before .before .before .before .before .before .before .before .args .fault) _ (c .before .before .before .before .before .before .before .before .before .before .before .before .before .before .before .before .before .before .read-atom .result) _ (got (c .before .before .before .before .before .before .before .before .before .before .before .before .before .before .before .before .before .before .read-atom .ensures) (not-false _ (c .before .before .before .before .before .before .before .before .before .before .before .before .before .before .if1 .left))) (sym (c .before .before .before .before .before .before .before .before .before .before .before .before .before .byte-at .ensures) ∙ (c .before .before .before .before .before .before .before .before .before .before .before .before .if2 .left)) (sym (c .before .before .before .before .before .before .before .before .before .before .before .byte-at2 .ensures) ∙ (c .before .before .before .before .before .before .before .before .if4 .left)) _ ((c .before .before .before .before .before .before .lesser .ensures) ∙ ap (λ g. min (c .before .before .before .before .before .before .before .before .before .before .before .before .before .before .before .before .before .before .read-atom .result .fault) g) (c .before .before .before .before .before .before .before .base-fault .ensures)) _ _ (c .before .before .before .before .read-bracket .ensures) (not-true _ (c .if5 .taken))
 
-read-power-raised-base-requires : (t : ℕ) → read-power-lts.Need-raised-base-requires (read-power-claims t) (read-power-at t) read-power.Post read-power-Inv-loop read-power-μ-loop
-read-power-raised-base-requires t c κs = omega (arith, part-inside (c .before .before .before .before .before .before .before .before .before .before .before .before .before .loop .inv .0) (c .before .before .before .before .before .before .before .before .before .before .before .read-atom .ensures) (not-false _ (c .before .before .before .before .before .before .before .if1 .left)), (c .before .before .before .before .before .before .before .before .before .before .before .before .before .before .before .before .before .good .0 .1))
+read-power-either-requires : (t : ℕ) → read-power-lts.Need-either-requires (read-power-claims t) (read-power-at t) read-power.Post
+read-power-either-requires t c κs = search needs
 
-read-power-loop-less : (t : ℕ) → read-power-lts.Need-loop-less (read-power-claims t) (read-power-at t) read-power.Post read-power-Inv-loop read-power-μ-loop
-read-power-loop-less t c = omega (arith, part-onward (c .before .before .before .before .before .before .before .before .before .before .before .before .before .before .loop .inv .0) (c .before .before .before .before .before .before .before .before .before .before .before .before .read-atom .ensures) (not-false _ (c .before .before .before .before .before .before .before .before .if1 .left)), part-inside (c .before .before .before .before .before .before .before .before .before .before .before .before .before .before .loop .inv .0) (c .before .before .before .before .before .before .before .before .before .before .before .before .read-atom .ensures) (not-false _ (c .before .before .before .before .before .before .before .before .if1 .left)))
+read-power-noted-requires : (t : ℕ) → read-power-lts.Need-noted-requires (read-power-claims t) (read-power-at t) read-power.Post
+read-power-noted-requires t c κs = let base = got (c .before .before .before .before .before .before .before .before .before .before .before .before .before .before .before .before .before .before .before .before .read-atom .ensures) (not-false _ (c .before .before .before .before .before .before .before .before .before .before .before .before .before .before .before .before .if1 .left)) in let power = got (c .before .before .before .before .before .before .read-bracket .ensures) (not-false _ (c .before .before .if5 .left)) in omega (arith, base .counted, base .room, power .counted, power .room, power .inside, (c .before .before .before .before .before .before .before .before .before .before .before .before .before .before .before .before .before .before .before .before .before .before .before .before .pre .1 .1 .0), (c .before .before .before .before .before .before .before .before .before .before .before .before .before .before .before .before .before .before .before .before .before .before .before .before .good .0 .1))
 
-read-power-loop-again : (t : ℕ) → read-power-lts.Need-loop-again (read-power-claims t) (read-power-at t) read-power.Post read-power-Inv-loop read-power-μ-loop
-read-power-loop-again t c = (the-exponent (c .before .before .before .before .before .before .before .before .before .before .before .before .read-atom .result) (part-base (c .before .before .before .before .before .before .before .before .before .before .before .before .before .before .loop .inv .0) (c .before .before .before .before .before .before .before .before .before .before .before .before .read-atom .ensures) (c .before .before .before .before .before .before .before .if2 .left) (not-false _ (c .before .before .before .before .before .before .before .before .if1 .left))) (sym (c .before .before .before .before .before .before .byte-at .ensures) ∙ (c .before .before .before .before .before .if3 .left)) (sym (c .before .before .before .before .byte-at2 .ensures) ∙ (c .before .if5 .left)) refl (c .raised-base .ensures), (c .before .before .before .before .before .before .before .before .before .before .before .before .read-atom .kept .1 .0) ∙ (c .before .before .before .before .before .before .before .before .before .before .before .before .before .before .loop .inv .1))
+read-power-same-length-6 : (t : ℕ) → read-power-lts.Need-same-length-6 (read-power-claims t) (read-power-at t) read-power.Post
+read-power-same-length-6 t c = (c .before .before .noted .kept .0) ∙ (c .before .before .before .before .before .before .before .before .before .read-bracket .kept .1 .0) ∙ (c .before .before .before .before .before .before .before .before .before .before .before .before .before .before .before .before .before .before .before .before .before .before .before .read-atom .kept .1 .0)
+
+read-power-returns-6 : (t : ℕ) → read-power-lts.Need-returns-6 (read-power-claims t) (read-power-at t) read-power.Post
+read-power-returns-6 t c = power-raise (c .before .before .before .before .before .before .before .before .before .before .before .before .before .before .before .before .before .before .before .before .before .before .before .before .before .before .before .args .text .now) (c .before .before .before .before .before .before .before .before .before .before .before .before .before .before .before .before .before .before .before .before .before .before .before .before .before .before .before .args .at) (c .before .before .before .before .before .before .before .before .before .before .before .before .before .before .before .before .before .before .before .before .before .before .before .before .before .before .before .args .nodes) (c .before .before .before .before .before .before .before .before .before .before .before .before .before .before .before .before .before .before .before .before .before .before .before .before .before .before .before .args .fault) _ (c .before .before .before .before .before .before .before .before .before .before .before .before .before .before .before .before .before .before .before .before .before .before .before .read-atom .result) _ (got (c .before .before .before .before .before .before .before .before .before .before .before .before .before .before .before .before .before .before .before .before .before .before .before .read-atom .ensures) (not-false _ (c .before .before .before .before .before .before .before .before .before .before .before .before .before .before .before .before .before .before .before .if1 .left))) (sym (c .before .before .before .before .before .before .before .before .before .before .before .before .before .before .before .before .before .before .byte-at .ensures) ∙ (c .before .before .before .before .before .before .before .before .before .before .before .before .before .before .before .before .before .if2 .left)) (sym (c .before .before .before .before .before .before .before .before .before .before .before .before .before .before .before .before .byte-at2 .ensures) ∙ (c .before .before .before .before .before .before .before .before .before .before .before .before .before .if4 .left)) _ ((c .before .before .before .before .before .before .before .before .before .before .before .lesser .ensures) ∙ ap (λ g. min (c .before .before .before .before .before .before .before .before .before .before .before .before .before .before .before .before .before .before .before .before .before .before .before .read-atom .result .fault) g) (c .before .before .before .before .before .before .before .before .before .before .before .before .base-fault .ensures)) (c .before .before .before .before .before .before .before .before .before .read-bracket .result) _ (c .before .before .before .before .before .before .before .before .before .read-bracket .ensures) (not-false _ (c .before .before .before .before .before .if5 .left)) _ _ ((c .before .before .noted .ensures .0) ∙ ap (λ b. finding b 1 (c .before .before .before .before .before .before .before .before .before .read-bracket .result .at) ((c .before .before .before .before .before .before .before .before .before .read-bracket .result .nodes) + 1) (c .before .before .before .before .before .before .before .before .before .read-bracket .result .fault)) (c .before .before .before .either .ensures)) (c .before .before .noted .ensures .1)
 
 abbrev read-product-Inv-loop : read-product-lts.InvT-loop
 read-product-Inv-loop text tree₀ at nodes fault left₀ joined₀ tree left joined = (ProductSoFar text at nodes fault tree₀ left joined tree) × (length tree ≡ length tree₀)
@@ -582,14 +578,8 @@ pub +read-atom+read-bracket+read-factor+read-power+read-product+read-sum-spec :
     (read-factor-same-length-2 t)
     (read-factor-returns-2 t))
     (λ t. read-power-lts.spec (
-      starting-reads.Asked,
-      starting-reads.Learnt,
       read-atom-below t,
       read-atom.Post,
-      either-reads.Asked,
-      either-reads.Learnt,
-      noted-reads.Asked,
-      noted-reads.Learnt,
       byte-at-reads.Asked,
       byte-at-reads.Learnt,
       is-digit-reads.Asked,
@@ -600,38 +590,44 @@ pub +read-atom+read-bracket+read-factor+read-power+read-product+read-sum-spec :
       literal-power-reads.Learnt,
       stopped-reads.Asked,
       stopped-reads.Learnt,
-      raised-base-reads.Asked,
-      raised-base-reads.Learnt,
+      base-fault-reads.Asked,
+      base-fault-reads.Learnt,
+      lesser-reads.Asked,
+      lesser-reads.Learnt,
+      read-bracket-below t,
+      read-bracket.Post,
+      either-reads.Asked,
+      either-reads.Learnt,
+      noted-reads.Asked,
+      noted-reads.Learnt,
     )
     (read-power-at t)
     read-power.Post
-    read-power-Inv-loop
-    read-power-μ-loop
-    (read-power-starting-requires t)
-    (read-power-loop-holds t)
     (read-power-read-atom-requires t)
     (read-power-same-length t)
     (read-power-returns t)
-    (read-power-either-requires t)
-    (read-power-noted-requires t)
+    (read-power-byte-at-requires t)
     (read-power-same-length-2 t)
     (read-power-returns-2 t)
-    (read-power-byte-at-requires t)
-    (read-power-same-length-3 t)
-    (read-power-returns-3 t)
     (read-power-add-place t)
     (read-power-byte-at-requires-2 t)
     (read-power-is-digit-requires t)
     (read-power-read-number-requires t)
     (read-power-literal-power-requires t)
+    (read-power-same-length-3 t)
+    (read-power-returns-3 t)
+    (read-power-stopped-requires t)
     (read-power-same-length-4 t)
     (read-power-returns-4 t)
-    (read-power-stopped-requires t)
+    (read-power-base-fault-requires t)
+    (read-power-lesser-requires t)
+    (read-power-read-bracket-requires t)
     (read-power-same-length-5 t)
     (read-power-returns-5 t)
-    (read-power-raised-base-requires t)
-    (read-power-loop-less t)
-    (read-power-loop-again t))
+    (read-power-either-requires t)
+    (read-power-noted-requires t)
+    (read-power-same-length-6 t)
+    (read-power-returns-6 t))
     (λ t. read-product-lts.spec (
       starting-reads.Asked,
       starting-reads.Learnt,
