@@ -13,7 +13,7 @@ pub struct Numeral {
     pub at: usize,
     pub value: u64,
     pub over: bool,
-    pub odd: u64,
+    pub odd: u8,
 }
 
 // The byte at a place, or 0 past the end, which no formula has.
@@ -48,7 +48,7 @@ fn pushed(number: Numeral, digit: u64) -> Numeral
             at,
             value: 0,
             over: true,
-            odd: digit % 2,
+            odd: (digit % 2) as u8,
         };
     }
     if (u64::MAX - digit) / 10 < value {
@@ -56,14 +56,14 @@ fn pushed(number: Numeral, digit: u64) -> Numeral
             at,
             value: 0,
             over: true,
-            odd: digit % 2,
+            odd: (digit % 2) as u8,
         };
     }
     Numeral {
         at,
         value: value * 10 + digit,
         over: false,
-        odd: digit % 2,
+        odd: (digit % 2) as u8,
     }
 }
 
@@ -78,7 +78,7 @@ pub fn read_number(text: &[u8], at: usize) -> Numeral
         at: at + 1,
         value: digit,
         over: false,
-        odd: digit % 2,
+        odd: (digit % 2) as u8,
     };
     if digit == 0 {
         return number;

@@ -19,7 +19,7 @@ const NO_FAULT: u64 = 18432;
 pub struct Found {
     pub ok: bool,
     pub variable: bool,
-    pub odd: u64,
+    pub odd: u8,
     pub at: usize,
     pub nodes: usize,
     pub fault: u64,
@@ -56,7 +56,7 @@ fn noted(
     kind: u64,
     word: u64,
     variable: bool,
-    odd: u64,
+    odd: u8,
     at: usize,
     nodes: usize,
     fault: u64,
@@ -117,7 +117,7 @@ fn literal_fault(number: Numeral, place: usize) -> u64
 }
 
 // Refusal 8 for a raise over a base that holds x or is even.
-fn base_fault(variable: bool, odd: u64, place: usize) -> u64
+fn base_fault(variable: bool, odd: u8, place: usize) -> u64
     requires { ⌜ place < 2 ^ 63 ⌝ }
     ensures { λ r. ⌜ r ≡ baseFault variable odd place ⌝ }
 {
@@ -131,7 +131,7 @@ fn base_fault(variable: bool, odd: u64, place: usize) -> u64
 }
 
 // The oddness of a literal power: 1 to the 0, else the base's.
-fn literal_odd(odd: u64, number: Numeral) -> u64
+fn literal_odd(odd: u8, number: Numeral) -> u8
     ensures { λ r. ⌜ r ≡ cond (number .over) odd (cond (eqb (number .value) 0) 1 odd) ⌝ }
 {
     if number.over {

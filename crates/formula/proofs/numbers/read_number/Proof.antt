@@ -25,6 +25,9 @@ digit-of-requires c κs = omega (arith, (c .byte-at .ensures))
 add-t8 : tie.Need-add-t8 Inv-loop μ-loop
 add-t8 c = omega (arith, inside (c .before .before .before .args .text .now) (c .before .before .before .args .at) (omega arith))
 
+cast-t10 : tie.Need-cast-t10 Inv-loop μ-loop
+cast-t10 c = search needs
+
 returns : tie.Need-returns Inv-loop μ-loop
 returns c = number-nought (c .before .before .before .before .args .text .now) (c .before .before .before .before .args .at) (c .before .digit-of .result) ((c .before .digit-of .ensures) ∙ (c .before .before .byte-at .ensures)) (c .if1 .taken)
 
@@ -61,6 +64,7 @@ read-number-spec =
     byte-at-requires
     digit-of-requires
     add-t8
+    cast-t10
     returns
     loop-holds
     byte-at-requires-2
