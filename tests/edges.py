@@ -4,7 +4,9 @@
 Nothing here is taken from the library. A chain is a sequence of whole numbers: its value at index i is the sum of its
 elements times the binomials (i over j). Sums, differences and products are taken value by value at the indices 0 to 16,
 a shift begins one index later, and the elements are the repeated differences of the values, modulo 2^64. A polynomial
-is evaluated as it stands. The probe is a difference of whole numbers."""
+is evaluated as it stands. The probe is a difference of whole numbers. A formula is read by Earley's method: the grammar
+is a list of rules, and each place of the text has the set of the rules that can be under way there. Every refusal that
+applies is worked out, and the least one counts."""
 from math import comb
 
 WORD = 2**64
@@ -134,6 +136,144 @@ def probe(name, reading, expected, tolerance):
     offset = (reading - expected + HALF) % WORD - HALF
     verdict = "ahead" if offset > tolerance else "behind" if offset < -tolerance else "within"
     line(name, f"0 0 {offset} {verdict}")
+
+
+# ---- reading a formula
+
+def joined(kind):
+    return lambda a, sign, b: a + b + [(kind, 0, sign[0])]
+
+
+def same(a):
+    return a
+
+
+# The grammar: a part's name, what the part consists of, and what it means. There a name stands for such a part and any other
+# text for one byte of it, which means its place and itself. A number means its place and its digits, a formula its nodes
+# in postfix order: kind, word and the place at which a refusal names it.
+GRAMMAR = [
+    ("sum", ["product"], same),
+    ("sum", ["sum", "+", "product"], joined(3)),
+    ("sum", ["sum", "-", "product"], joined(4)),
+    ("product", ["factor"], same),
+    ("product", ["product", "*", "factor"], joined(5)),
+    ("factor", ["power"], same),
+    ("factor", ["-", "factor"], lambda sign, a: a + [(6, 0, sign[0])]),
+    ("power", ["atom"], same),
+    ("power", ["atom", "^", "number"], lambda a, caret, n: a + [(7, int(n[1]), n[0])]),
+    ("power", ["atom", "^", "(", "sum", ")"], lambda a, caret, o, b, c: a + b + [(8, 0, caret[0])]),
+    ("atom", ["number"], lambda n: [(0, int(n[1]), n[0])]),
+    ("atom", ["x"], lambda x: [(1, 0, x[0])]),
+    ("atom", ["(", "sum", ")"], lambda o, a, c: a),
+    ("number", ["0"], same),
+    ("number", ["digits"], same),
+    ("digits", ["123456789"], same),
+    ("digits", ["digits", "0123456789"], lambda ds, d: (ds[0], ds[1] + d[1])),
+]
+PARTS = {name for name, _, _ in GRAMMAR}
+
+
+def beginning(name, place):
+    return {(rule, 0, place): () for rule, (part, _, _) in enumerate(GRAMMAR) if part == name}
+
+
+def stepped(items, fits, meaning):
+    """The rules under way whose next part fits, a step further."""
+    return {(rule, dot + 1, origin): parts + (meaning,) for (rule, dot, origin), parts in items.items()
+            if dot < len(GRAMMAR[rule][1]) and fits(GRAMMAR[rule][1][dot])}
+
+
+def completed(items, place, columns):
+    """Adds the rules that can begin at the place, and those that go on where a rule has ended."""
+    work = list(items)
+    while work:
+        rule, dot, origin = work.pop()
+        name, parts, meaning = GRAMMAR[rule]
+        if dot < len(parts):
+            more = beginning(parts[dot], place)
+        else:
+            more = stepped(columns[origin], lambda part: part == name, meaning(*items[rule, dot, origin]))
+            assert not more.keys() & items.keys(), "a text with two meanings"
+        work += more.keys() - items.keys()
+        items = {**more, **items}
+    return items
+
+
+def formula(text):
+    """The place where the text leaves the grammar, the length if it does not, and its nodes if it is a formula."""
+    columns = [completed(beginning("sum", 0), 0, [])]
+    for place, byte in enumerate(text):
+        items = stepped(columns[-1], lambda part: part not in PARTS and byte in part, (place, byte))
+        if not items:
+            return place, None
+        columns.append(completed(items, place + 1, columns))
+    for (rule, dot, origin), parts in columns[-1].items():
+        if origin == 0 and GRAMMAR[rule][0] == "sum" and dot == len(GRAMMAR[rule][1]):
+            return len(text), GRAMMAR[rule][2](*parts)
+    return len(text), None
+
+
+WORKED = {
+    3: lambda a, b: a + b,
+    4: lambda a, b: a - b,
+    5: lambda a, b: a * b,
+    6: lambda a: -a,
+    8: lambda a, b: pow(a, b, WORD),
+}
+
+
+def bad_raises(nodes):
+    """Refusal 8 at every raise over an even base or one that holds x. What holds x has no value."""
+    stack = []
+    for kind, word, place in nodes:
+        if kind in (0, 1):
+            stack.append(word % WORD if kind == 0 else None)
+            continue
+        operands = [stack.pop() for _ in range(1 if kind in (6, 7) else 2)][::-1]
+        if kind == 8 and (operands[0] is None or operands[0] % 2 == 0):
+            yield 8, place
+        worked_out = WORKED.get(kind, lambda a: pow(a, word, WORD))
+        stack.append(None if None in operands else worked_out(*operands) % WORD)
+
+
+def refusals(text):
+    """The number and place of every refusal from 2 to 8 that applies to the text."""
+    if len(text) > 1024:
+        yield 2, 1024
+    for place, byte in enumerate(text):
+        if byte == "(" and text[:place + 1].count("(") - text[:place + 1].count(")") > 32:
+            yield 3, place
+    left, nodes = formula(text)
+    if nodes is None:
+        yield 4, left
+        return
+    for kind, word, place in nodes:
+        if kind in (0, 7) and word >= WORD:
+            yield 5, place
+        if kind == 7 and word > 64:
+            yield 6, place
+    if len(nodes) > 128:
+        yield 7, 0
+    yield from bad_raises(nodes)
+
+
+def reading(name, text=None, answer=None, count=None, lent=None):
+    """Where a document gives the number and place or the count of nodes, they must agree. The name is the text if that can
+    be printed."""
+    text = name if text is None else text
+    number, place = (1, 0) if lent is not None and lent < 257 else min(refusals(text), default=(0, 0))
+    assert answer is None or (number, place) == answer, name
+    name = f"read {name}" if lent is None else f"read {name} into {lent} words"
+    if number:
+        return line(name, f"{number} {place} kept")
+    nodes = formula(text)[1]
+    assert count is None or len(nodes) == count, name
+    line(name, f"0 0 {len(nodes)}: {', '.join(f'{kind} {word}' for kind, word, _ in nodes)} clean kept")
+
+
+def readings(texts):
+    for text in texts.split():
+        reading(text)
 
 
 # ---- the cases
@@ -409,6 +549,251 @@ def probes():
     probe("probe reading 0 for 2^63", 0, HALF, 3)
 
 
+def formulas():
+    for text in "x^3 3*x+1 x*x-x^2+7 x^2 x x^2+x -x^2 3^(x) 3^(3^(x)) 0^0 2^3".split():
+        reading(text, answer=(0, 0))
+    reading("2^(3)", answer=(8, 1))
+    reading("x^(2)", answer=(8, 1))
+    for text in "x^17 x^16 x^8*x^8 x^8*x^9".split():
+        reading(text, answer=(0, 0))
+    reading("{0:x}", "", answer=(4, 0))
+    reading("01", answer=(4, 1))
+    reading("1-", answer=(4, 2))
+    reading("x^2^3", answer=(4, 3))
+    reading(f"{WORD - 1}", answer=(0, 0))
+    reading(f"{WORD}", answer=(5, 0))
+    reading("x^64", answer=(0, 0))
+    reading("x^65", answer=(6, 2))
+    reading("x{63:+x}", "+".join("x" * 64), answer=(0, 0), count=127)
+    reading("x{64:+x}", "+".join("x" * 65), answer=(7, 0))
+    reading("x+3^(x)", answer=(0, 0))
+    reading("2^(x)", answer=(8, 1))
+
+    reading("99999999999999999999+(", answer=(4, 22))
+    reading("x^65+99999999999999999999", answer=(5, 5))
+    reading("x^99999999999999999999", answer=(5, 2))
+    reading("){33:(}", ")" + "(" * 33, answer=(4, 0))
+    reading("x{33:(}", "x" + "(" * 33, answer=(3, 33))
+    reading("(x^0)^(2)", answer=(8, 5))
+    reading("(0*x+3)^(2)", answer=(8, 7))
+    reading("2^(2^(x))", answer=(8, 1))
+    for text in "-3^(x) (-3)^(x) 3^(2)".split():
+        reading(text, answer=(0, 0))
+    reading("0^(0)", answer=(8, 1))
+
+    readings("0 -0 10 (7) ((x)) --x ---x -(-(x)) x--x x---x x+-x x*-x x*--x x+x+x x+(x+x) x-x-x x-(x-x) x-x+x x+x-x")
+    readings("x*x*x x*(x*x) x+x*x (x+x)*x x*x+x x*(x+x) -x*x -(x*x) -x+x -(x+x) -x-x*-x")
+    readings("x^0 x^1 (-x)^2 -(-x)^2 (x+1)^2 (x^2)^3 x^2*x^3 x*x^2 2*-3^2 1^(x) 3^(-x) 3^((2)) (3)^(2) ((3))^((x))")
+    readings("3^(x)*5^(x) 3^(x^2+x+1) 3^(5^(7)) 3^(5)^2 (3^(5))^2 (1+2*3)^(x-1) x^2-3^(x)*-7+(x-1)*(x+1)^4")
+    reading("x^", answer=(4, 2))
+    reading("x^01", answer=(4, 3))
+    readings("x^00 x^-2 x^+2 x^x x^^2 x^* x^( x^() x^(2 x^(2)^2 x^(2)(2) (x)^2^2 x^2x x^2( x^(x)) ^2 (^2) 2^(3^)")
+    readings("- -- + ( ) () (x x) )x( (x)(x) (x+1 x+1) xx 2x x2 x(x) 2(x) (x)2 0x1 00 -01 +x *x x+ x* x- x**x x++x x-+x (-)")
+
+    for byte in (0, 9, 10, 13, 32, 127, 128, 255):
+        reading(f"<{byte}>x+1", chr(byte) + "x+1", answer=(4, 0))
+        reading(f"x+<{byte}>1", "x+" + chr(byte) + "1", answer=(4, 2))
+        reading(f"x+1<{byte}>", "x+1" + chr(byte), answer=(4, 3))
+    readings("x'1 x,1 x.1 x/1 1/2 1:2 x]2 x_2 w y X")
+    reading("(<32>)", "( )")
+    reading("1<32>2", "1 2", answer=(4, 1))
+    reading("x^<32>2", "x^ 2")
+    reading("-<9>x", "-\tx")
+    reading("3^(<10>x)", "3^(\nx)")
+    reading("x<13><10>", "x\r\n")
+    reading("x<0><0>", "x\0\0")
+    reading("<248>", chr(ord("x") + 128))
+    reading("<176>", chr(ord("0") + 128))
+
+
+def limits():
+    big = f"{WORD - 1}+" * 48
+    reading("{48:18446744073709551615+}1000000000000000", big + "1" + "0" * 15, answer=(0, 0), count=97)
+    reading("{48:18446744073709551615+}10000000000000000", big + "1" + "0" * 16, answer=(2, 1024))
+    reading("{1024:9}", "9" * 1024, answer=(5, 0))
+    reading("{1025:9}", "9" * 1025, answer=(2, 1024))
+    reading("x^{1022:9}", "x^" + "9" * 1022, answer=(5, 2))
+    reading("x^{1023:9}", "x^" + "9" * 1023, answer=(2, 1024))
+    reading("{1023:-}x", "-" * 1023 + "x", answer=(7, 0))
+    reading("{1024:-}x", "-" * 1024 + "x", answer=(2, 1024))
+    reading("-x{511:+x}", "-" + "+".join("x" * 512), answer=(7, 0))
+    reading("x{512:+x}", "+".join("x" * 513), answer=(2, 1024))
+    for byte, place in (("-", 1024), ("x", 1), ("?", 0)):
+        reading(f"{{1024:{byte}}}", byte * 1024, answer=(4, place))
+        reading(f"{{1025:{byte}}}", byte * 1025, answer=(2, 1024))
+    reading("{1100:?}", "?" * 1100, answer=(2, 1024))
+
+    def nested(depth, text="x"):
+        return "(" * depth + text + ")" * depth
+
+    reading("{32:(}x{32:)}", nested(32), answer=(0, 0), count=1)
+    reading("{33:(}x{33:)}", nested(33), answer=(3, 32))
+    reading("{32:(}x{32:)}*{32:(}x{32:)}", nested(32) + "*" + nested(32), answer=(0, 0))
+    reading("{32:(}x)+(x{32:)}", nested(31, "(x)+(x)"), answer=(0, 0))
+    reading("{32:(}x)+((x{33:)}", nested(31, "(x)+((x))"), answer=(3, 36))
+    reading("{31:(}3^(x){31:)}", nested(31, "3^(x)"), answer=(0, 0))
+    reading("{32:(}3^(x){32:)}", nested(32, "3^(x)"), answer=(3, 34))
+    reading("{32:3^(}x{32:)}", "3^(" * 32 + "x" + ")" * 32, answer=(0, 0), count=65)
+    reading("{33:3^(}x{33:)}", "3^(" * 33 + "x" + ")" * 33, answer=(3, 98))
+    reading("{63:(x)+}x", "(x)+" * 63 + "x", answer=(0, 0), count=127)
+    reading("{32:(}", "(" * 32, answer=(4, 32))
+    reading("{33:(}", "(" * 33, answer=(3, 32))
+    reading("{1024:(}", "(" * 1024, answer=(3, 32))
+    reading("{32:(}x{33:)}", nested(32) + ")", answer=(4, 65))
+    reading("{33:(x)}", "(x)" * 33, answer=(4, 3))
+    reading("{33:()}", "()" * 33, answer=(4, 1))
+
+    def surplus(name, before, opened, answer):
+        reading(f"{name}{{{opened}:(}}", before + "(" * opened, answer)
+
+    surplus("?", "?", 32, (4, 0))
+    surplus("?", "?", 33, (3, 33))
+    surplus(")", ")", 34, (3, 34))
+    surplus("{3:)}", ")" * 3, 35, (4, 0))
+    surplus("{3:)}", ")" * 3, 36, (3, 38))
+    surplus("x)", "x)", 33, (4, 1))
+    surplus("x)", "x)", 34, (3, 35))
+    surplus("x{20:)}", "x" + ")" * 20, 52, (4, 1))
+    surplus("x{20:)}", "x" + ")" * 20, 53, (3, 73))
+    reading("{32:(}?(", "(" * 32 + "?(", answer=(3, 33))
+    reading("{32:(}?)(", "(" * 32 + "?)(", answer=(4, 32))
+    reading("{32:(}?))((", "(" * 32 + "?))((", answer=(4, 32))
+    reading("{32:(}?))(((", "(" * 32 + "?))(((", answer=(3, 37))
+    surplus("{992:?}", "?" * 992, 32, (4, 0))
+    surplus("{991:?}", "?" * 991, 33, (3, 1023))
+    surplus("{496:)}", ")" * 496, 528, (4, 0))
+    surplus("{495:)}", ")" * 495, 528, (3, 1022))
+
+    reading(f"x+{WORD - 1}", answer=(0, 0))
+    reading(f"x+{WORD}", answer=(5, 2))
+    for number in (WORD + 1, WORD + 4, WORD + 9, 10 * (WORD - 1)):
+        reading(f"{number}", answer=(5, 0))
+    reading(f"{10**19 - 1}", answer=(0, 0))
+    reading(f"{10**19}", answer=(0, 0))
+    for number in (10**20, 2 * WORD, WORD**2):
+        reading(f"{number}", answer=(5, 0))
+    reading(f"{WORD}+{WORD}", answer=(5, 0))
+    reading(f"{WORD - 1}-{WORD}", answer=(5, 21))
+    reading(f"x^{WORD - 1}", answer=(6, 2))
+    reading(f"x^{WORD}", answer=(5, 2))
+    reading(f"x^{2 * WORD + 1}", answer=(5, 2))
+    reading(f"x^{WORD}+{WORD}", answer=(5, 2))
+    reading(f"{WORD}+x^{WORD}", answer=(5, 0))
+    reading(f"3^({WORD - 1})", answer=(0, 0))
+    reading(f"3^({WORD})", answer=(5, 3))
+
+    reading("x^63", answer=(0, 0))
+    for text in "x^66 x^100 x^640".split():
+        reading(text, answer=(6, 2))
+    reading("2^64", answer=(0, 0))
+    reading("2^65", answer=(6, 2))
+    reading("0^65", answer=(6, 2))
+    reading("(x+1)^64", answer=(0, 0))
+    reading("(x+1)^65", answer=(6, 6))
+    reading("-x^65", answer=(6, 3))
+    reading("x^64+x^65", answer=(6, 7))
+    reading("x^65+x^66", answer=(6, 2))
+    reading(f"x^66*x^{WORD - 1}", answer=(6, 2))
+    reading("3^(x^64)", answer=(0, 0))
+    reading("3^(x^65)", answer=(6, 5))
+    reading("(x^65)^2", answer=(6, 3))
+
+    reading("-x{63:+x}", "-x" + "+x" * 63, answer=(0, 0), count=128)
+    reading("--x{63:+x}", "--x" + "+x" * 63, answer=(7, 0))
+    reading("{127:-}x", "-" * 127 + "x", answer=(0, 0), count=128)
+    reading("{128:-}x", "-" * 128 + "x", answer=(7, 0))
+    reading("x^2{63:+x}", "x^2" + "+x" * 63, answer=(0, 0), count=128)
+    reading("x^2{62:+x}+x^2", "x^2" + "+x" * 62 + "+x^2", answer=(7, 0))
+    reading("3^(x){62:+x}", "3^(x)" + "+x" * 62, answer=(0, 0), count=127)
+    reading("-3^(x){62:+x}", "-3^(x)" + "+x" * 62, answer=(0, 0), count=128)
+    reading("--3^(x){62:+x}", "--3^(x)" + "+x" * 62, answer=(7, 0))
+    reading("x^2{42:+x^2}", "x^2" + "+x^2" * 42, answer=(0, 0), count=128)
+    reading("-x^2{42:+x^2}", "-x^2" + "+x^2" * 42, answer=(7, 0))
+    reading("(x){63:-(x)}", "(x)" + "-(x)" * 63, answer=(0, 0), count=127)
+    reading("(x){64:-(x)}", "(x)" + "-(x)" * 64, answer=(7, 0))
+    reading("1{63:*1}", "1" + "*1" * 63, answer=(0, 0), count=127)
+    reading("1{64:*1}", "1" + "*1" * 64, answer=(7, 0))
+    reading("-((x)){63:*((x))}", "-((x))" + "*((x))" * 63, answer=(0, 0), count=128)
+
+
+def bases():
+    even = f"0^(x) {WORD - 2}^(x) (1+1)^(x) (3-1)^(x) (2*3)^(x) (-2)^(x) -2^(x) (2^1)^(x) (4^64)^(x) (3^(2)+1)^(x)".split()
+    even += ["((3^(2)-1)*3)^(x)"]
+    for text in (f"1^(0) 0^(x) {WORD - 1}^(x) {WORD - 2}^(x) (1+1)^(x) (1+2)^(x) (4-1)^(x) (3-1)^(x) (3*5)^(x) (2*3)^(x) "
+                 "(0-1)^(x) (-2)^(x) --3^(x) -2^(x) (2^0)^(x) (0^0)^(x) (2^1)^(x) (3^64)^(x) (4^64)^(x) (3^(2))^(x) "
+                 f"(3^(2)+1)^(x) (3*5^(7)-2)^(x) ({WORD - 1}*2+1)^(x) ((3^(2)-1)*3)^(x)").split():
+        reading(text, answer=(8, text.rindex("^")) if text in even else (0, 0))
+    for text in "(x)^(2) (-x)^(2) (x-x+1)^(2) (1^x)^(2) ((x+1)^0)^(2) (3^(x))^(2) (3^(0*x))^(2)".split():
+        reading(text)
+    reading("3^(x)+2^(x)", answer=(8, 7))
+    reading("2^(x)*4^(x)", answer=(8, 1))
+    reading("3^(2^(x))", answer=(8, 4))
+    reading("3^(5^(x^(2)))", answer=(8, 7))
+    reading("(2^(x))^(x)", answer=(8, 2))
+    reading("(x^(2))^(3)", answer=(8, 2))
+    reading("(3^(4^(1)))^(x)", answer=(8, 5))
+    reading("3^(x)-(5^(x)+x^(x))", answer=(8, 14))
+
+
+def orders():
+    """Texts to which several refusals apply."""
+    for name, text in (
+            ("{1025:(}", "(" * 1025),
+            ("{1025:)}", ")" * 1025),
+            ("{48:18446744073709551616+}10000000000000000", f"{WORD}+" * 48 + f"{10**16}"),
+            ("{48:18446744073709551615+}x^65+100000000000", f"{WORD - 1}+" * 48 + f"x^65+{10**11}"),
+            ("{129:-}{42:18446744073709551615+}11111111111111", "-" * 129 + f"{WORD - 1}+" * 42 + "1" * 14),
+            ("{48:18446744073709551615+}2^(x)+10000000000", f"{WORD - 1}+" * 48 + f"2^(x)+{10**10}")):
+        assert len(text) == 1025, name
+        reading(name, text, answer=(2, 1024))
+
+    everything = f"2^(x^65+{WORD})"
+    reading("{33:(}x", "(" * 33 + "x", answer=(3, 32))
+    for name, text in (
+            (f"{WORD}", f"{WORD}"), ("x^65", "x^65"), ("{129:-}x", "-" * 129 + "x"), ("2^(x)", "2^(x)"),
+            (f"{{129:-}}{everything}", "-" * 129 + everything)):
+        reading(f"{{33:(}}{name}{{33:)}}", "(" * 33 + text + ")" * 33, answer=(3, 32))
+    reading(f"{WORD}+x^65+{{33:(}}2^(x){{33:)}}", f"{WORD}+x^65+" + "(" * 33 + "2^(x)" + ")" * 33, answer=(3, 58))
+
+    reading(f"{WORD})", answer=(4, 20))
+    reading(f"{WORD}+", answer=(4, 21))
+    reading("x^65)", answer=(4, 4))
+    reading("x^65+", answer=(4, 5))
+    reading("{129:-}x)", "-" * 129 + "x)", answer=(4, 130))
+    reading("{129:-}", "-" * 129, answer=(4, 129))
+    reading("2^(x))", answer=(4, 5))
+    reading("2^(x)+", answer=(4, 6))
+    reading(f"{{129:-}}{everything}?", "-" * 129 + everything + "?", answer=(4, 158))
+    reading(f"x^65+{WORD}", answer=(5, 5))
+    reading(f"{WORD}+x^65", answer=(5, 0))
+    reading(f"{{129:-}}{WORD}", "-" * 129 + f"{WORD}", answer=(5, 129))
+    reading(f"2^({WORD})", answer=(5, 3))
+    reading(f"2^(x)+{WORD}", answer=(5, 6))
+    reading(f"{WORD}+2^(x)", answer=(5, 0))
+    reading(f"{{129:-}}{everything}", "-" * 129 + everything, answer=(5, 137))
+    reading("{129:-}x^65", "-" * 129 + "x^65", answer=(6, 131))
+    reading("2^(x^65)", answer=(6, 5))
+    reading("2^(x)+x^65", answer=(6, 8))
+    reading("x^65+2^(x)", answer=(6, 2))
+    reading("{129:-}2^(x^65)", "-" * 129 + "2^(x^65)", answer=(6, 134))
+    reading("{129:-}2^(x)", "-" * 129 + "2^(x)", answer=(7, 0))
+    reading("2^(x){64:+x}", "2^(x)" + "+x" * 64, answer=(7, 0))
+
+
+def lent_words():
+    for words, number in ((0, 1), (1, 1), (256, 1), (257, 0), (258, 0)):
+        reading("x", answer=(number, 0), lent=words)
+    reading("-x{63:+x}", "-x" + "+x" * 63, answer=(1, 0), lent=256)
+    reading("-x{63:+x}", "-x" + "+x" * 63, answer=(0, 0), count=128, lent=257)
+    reading("--x{63:+x}", "--x" + "+x" * 63, answer=(7, 0), lent=257)
+    reading("{0:x}", "", answer=(1, 0), lent=256)
+    reading("{0:x}", "", answer=(4, 0), lent=257)
+    for name, text in (("{1025:x}", "x" * 1025), ("{33:(}", "(" * 33), ("x^2^3", "x^2^3"), (f"{WORD}", f"{WORD}"),
+                       ("x^65", "x^65"), ("{129:-}x", "-" * 129 + "x"), ("2^(x)", "2^(x)")):
+        reading(name, text, answer=(1, 0), lent=256)
+    reading("2^(x)", answer=(8, 1), lent=257)
+
+
 if __name__ == "__main__":
     chains()
     sums()
@@ -417,3 +802,8 @@ if __name__ == "__main__":
     documents()
     sequences()
     probes()
+    formulas()
+    limits()
+    bases()
+    orders()
+    lent_words()

@@ -3,10 +3,13 @@
 mod chains;
 mod coefficients;
 mod documents;
+mod formulas;
+mod notation;
 mod postfix;
 mod print;
 mod probes;
 mod products;
+mod refusals;
 mod sequences;
 mod sums;
 mod table;
@@ -20,4 +23,6 @@ fn main() {
     documents::run();
     sequences::run();
     probes::run();
+    formulas::run();
+    refusals::run();
 }

@@ -2,6 +2,10 @@
 // Which cases there are is up to the modules of the subjects.
 use crate::text::Given;
 use libc::STDOUT_FILENO;
+ghost use Prim.Native.Nat.{_≤_};
+
+// Stands in every word of a tree before it is lent.
+pub const UNWRITTEN: u64 = 999;
 
 fn text(bytes: &[u8]) {
     io::write_all(STDOUT_FILENO, bytes);
@@ -121,5 +125,104 @@ pub fn probe(name: &[u8], answer: probe::ProbeAnswer) {
         probe::Verdict::Within => text(b" within\n"),
         probe::Verdict::Ahead => text(b" ahead\n"),
         probe::Verdict::Behind => text(b" behind\n"),
+    }
+}
+
+// The word at a place, or 0 past the end.
+fn word_at(words: &[u64], at: usize) -> u64 {
+    if at < words.len() {
+        return words[at];
+    }
+    0
+}
+
+// Whether the words from `at` up to an end are all the same.
+fn is_all(words: &[u64], at: usize, end: usize, word: u64) -> bool {
+    let mut i = at;
+    while i < end {
+        if word_at(words, i) != word {
+            return false;
+        }
+        i += 1;
+    }
+    true
+}
+
+// The nodes that a tree counts; 128 where it counts more.
+fn counted(tree: &[u64]) -> usize
+    ensures { λ r. ⌜ r ≤ 128 ⌝ }
+{
+    let count = word_at(tree, 0);
+    if 128 < count {
+        return 128;
+    }
+    count as usize
+}
+
+// The kind and the word of node i, after a comma where it is not the first.
+fn node(kind: u64, word: u64, i: usize) {
+    if 0 < i {
+        text(b",");
+    }
+    text(b" ");
+    number(kind);
+    text(b" ");
+    number(word);
+}
+
+fn nodes(tree: &[u64], count: usize)
+    requires { ⌜ count ≤ 128 ⌝ }
+{
+    let mut i = 0;
+    while i < count {
+        node(word_at(tree, 1 + 2 * i), word_at(tree, 2 + 2 * i), i);
+        i += 1;
+    }
+}
+
+// count: kind word, kind word, .. and whether the rest of the 257 words is clean
+fn tree(tree: &[u64]) {
+    number(word_at(tree, 0));
+    text(b":");
+    let count = counted(tree);
+    nodes(tree, count);
+    if is_all(tree, 1 + 2 * count, 257, 0) {
+        text(b" clean ");
+    } else {
+        text(b" dirty ");
+    }
+}
+
+// The first word that a call may not write: 257, or 0 where it is refused.
+fn first_kept(refusal: u64) -> usize {
+    if refusal == 0 {
+        return 257;
+    }
+    0
+}
+
+// How many words were lent, where the case says it.
+fn into(lent: &[u8]) {
+    if lent.len() == 0 {
+        return;
+    }
+    text(b" into ");
+    text(lent);
+    text(b" words");
+}
+
+// number place, the tree if accepted, and whether the words that are to stay are as before
+pub fn reading(name: &[u8], lent: &[u8], answer: formula::ReadAnswer, words: &[u64]) {
+    text(b"read ");
+    text(name);
+    into(lent);
+    head(b"", answer.number, answer.place);
+    if answer.number == 0 {
+        tree(words);
+    }
+    if is_all(words, first_kept(answer.number), words.len(), UNWRITTEN) {
+        text(b"kept\n");
+    } else {
+        text(b"changed\n");
     }
 }

@@ -1,15 +1,19 @@
 // Tables of cases: a line each, a name and a body with a bar between them.
-// The kind of a table says what its bodies are: postfix text, or three words for the probe.
+// The kind of a table says what its bodies are: postfix text, three words for the probe, or how many words a reading is lent.
+use crate::notation;
 use crate::postfix;
 use crate::print;
 use crate::text;
+ghost use Prim.Native.Nat.{_≤_};
 
-// A chain's answer, a chain's present value, its first 20 values, or a reading, what was expected and a tolerance.
+// A chain's answer, a chain's present value, its first 20 values; a reading, what was expected and a tolerance; or a formula, whose text
+// is the name.
 pub enum Kind {
     Chain,
     Value,
     Sequence,
     Probe,
+    Formula,
 }
 
 pub fn each(kind: Kind, table: &[u8]) {
@@ -33,6 +37,7 @@ fn case(kind: Kind, line: &[u8]) {
         Kind::Value => value_case(name, body),
         Kind::Sequence => sequence_case(name, body),
         Kind::Probe => probe_case(name, body),
+        Kind::Formula => formula_case(name, body),
     }
 }
 
@@ -59,4 +64,36 @@ fn probe_case(name: &[u8], body: &[u8]) {
     let list = text::list(body);
     let words = list.words;
     print::probe(name, probe::probe(words[0], words[1], words[2]));
+}
+
+fn formula_case(name: &[u8], body: &[u8]) {
+    let mut bytes = [0u8; 1100];
+    let mut tree = [print::UNWRITTEN; 258];
+    read_case(name, body, &mut bytes, &mut tree);
+}
+
+// How many words the body says, at most so many; all of them where it is empty.
+fn lent(body: &[u8], most: usize) -> usize
+    ensures { λ r. ⌜ r ≤ most ⌝ }
+{
+    if body.len() == 0 {
+        return most;
+    }
+    let count = text::number(body) as usize;
+    if most < count {
+        return most;
+    }
+    count
+}
+
+// Reads the text that the notation stands for.
+fn read(notation: &[u8], bytes: &mut [u8], tree: &mut [u64]) -> formula::ReadAnswer {
+    let length = notation::expand(notation, bytes);
+    formula::read(text::part(bytes, 0, length), tree)
+}
+
+fn read_case(name: &[u8], body: &[u8], bytes: &mut [u8], tree: &mut [u64]) {
+    let count = lent(body, tree.len());
+    let answer = read(name, bytes, &mut tree[0..count]);
+    print::reading(name, body, answer, tree);
 }
