@@ -6,7 +6,8 @@ elements times the binomials (i over j). Sums, differences and products are take
 a shift begins one index later, and the elements are the repeated differences of the values, modulo 2^64. A polynomial
 is evaluated as it stands. The probe is a difference of whole numbers. A formula is read by Earley's method: the grammar
 is a list of rules, and each place of the text has the set of the rules that can be under way there. Every refusal that
-applies is worked out, and the least one counts."""
+applies is worked out, and the least one counts. A text that can't be printed or is long has a name in the notation of
+the program's tables, {33:(} for 33 brackets and <10> for the byte 10."""
 from math import comb
 
 WORD = 2**64
@@ -148,9 +149,9 @@ def same(a):
     return a
 
 
-# The grammar: a part's name, what the part consists of, and what it means. There a name stands for such a part and any other
-# text for one byte of it, which means its place and itself. A number means its place and its digits, a formula its nodes
-# in postfix order: kind, word and the place at which a refusal names it.
+# The grammar: a part's name, what the part consists of, and what it means. There a name stands for such a part, and any
+# other text for one of its bytes, which means its place and itself. A number means its place and its digits, the others
+# their nodes in postfix order: kind, word, and the place that a refusal gives.
 GRAMMAR = [
     ("sum", ["product"], same),
     ("sum", ["sum", "+", "product"], joined(3)),
@@ -258,8 +259,8 @@ def refusals(text):
 
 
 def reading(name, text=None, answer=None, count=None, lent=None):
-    """Where a document gives the number and place or the count of nodes, they must agree. The name is the text if that can
-    be printed."""
+    """Where the number and place or the count of nodes are known otherwise, they must agree. The name is the text where
+    none is given."""
     text = name if text is None else text
     number, place = (1, 0) if lent is not None and lent < 257 else min(refusals(text), default=(0, 0))
     assert answer is None or (number, place) == answer, name
@@ -549,7 +550,7 @@ def probes():
     probe("probe reading 0 for 2^63", 0, HALF, 3)
 
 
-def formulas():
+def texts_of_the_documents():
     for text in "x^3 3*x+1 x*x-x^2+7 x^2 x x^2+x -x^2 3^(x) 3^(3^(x)) 0^0 2^3".split():
         reading(text, answer=(0, 0))
     reading("2^(3)", answer=(8, 1))
@@ -581,6 +582,8 @@ def formulas():
         reading(text, answer=(0, 0))
     reading("0^(0)", answer=(8, 1))
 
+
+def grammar_texts():
     readings("0 -0 10 (7) ((x)) --x ---x -(-(x)) x--x x---x x+-x x*-x x*--x x+x+x x+(x+x) x-x-x x-(x-x) x-x+x x+x-x")
     readings("x*x*x x*(x*x) x+x*x (x+x)*x x*x+x x*(x+x) -x*x -(x*x) -x+x -(x+x) -x-x*-x")
     readings("x^0 x^1 (-x)^2 -(-x)^2 (x+1)^2 (x^2)^3 x^2*x^3 x*x^2 2*-3^2 1^(x) 3^(-x) 3^((2)) (3)^(2) ((3))^((x))")
@@ -588,8 +591,11 @@ def formulas():
     reading("x^", answer=(4, 2))
     reading("x^01", answer=(4, 3))
     readings("x^00 x^-2 x^+2 x^x x^^2 x^* x^( x^() x^(2 x^(2)^2 x^(2)(2) (x)^2^2 x^2x x^2( x^(x)) ^2 (^2) 2^(3^)")
-    readings("- -- + ( ) () (x x) )x( (x)(x) (x+1 x+1) xx 2x x2 x(x) 2(x) (x)2 0x1 00 -01 +x *x x+ x* x- x**x x++x x-+x (-)")
+    readings("- -- + ( ) () (x x) )x( (x)(x) (x+1 x+1) xx 2x x2 x(x) 2(x) (x)2 0x1 00 -01 +x *x x+ x* x- x**x x++x")
+    readings("x-+x (-)")
 
+
+def strange_bytes():
     for byte in (0, 9, 10, 13, 32, 127, 128, 255):
         reading(f"<{byte}>x+1", chr(byte) + "x+1", answer=(4, 0))
         reading(f"x+<{byte}>1", "x+" + chr(byte) + "1", answer=(4, 2))
@@ -606,7 +612,7 @@ def formulas():
     reading("<176>", chr(ord("0") + 128))
 
 
-def limits():
+def text_lengths():
     big = f"{WORD - 1}+" * 48
     reading("{48:18446744073709551615+}1000000000000000", big + "1" + "0" * 15, answer=(0, 0), count=97)
     reading("{48:18446744073709551615+}10000000000000000", big + "1" + "0" * 16, answer=(2, 1024))
@@ -623,6 +629,8 @@ def limits():
         reading(f"{{1025:{byte}}}", byte * 1025, answer=(2, 1024))
     reading("{1100:?}", "?" * 1100, answer=(2, 1024))
 
+
+def brackets():
     def nested(depth, text="x"):
         return "(" * depth + text + ")" * depth
 
@@ -643,6 +651,8 @@ def limits():
     reading("{33:(x)}", "(x)" * 33, answer=(4, 3))
     reading("{33:()}", "()" * 33, answer=(4, 1))
 
+
+def surplus_brackets():
     def surplus(name, before, opened, answer):
         reading(f"{name}{{{opened}:(}}", before + "(" * opened, answer)
 
@@ -664,6 +674,8 @@ def limits():
     surplus("{496:)}", ")" * 496, 528, (4, 0))
     surplus("{495:)}", ")" * 495, 528, (3, 1022))
 
+
+def numbers():
     reading(f"x+{WORD - 1}", answer=(0, 0))
     reading(f"x+{WORD}", answer=(5, 2))
     for number in (WORD + 1, WORD + 4, WORD + 9, 10 * (WORD - 1)):
@@ -682,6 +694,8 @@ def limits():
     reading(f"3^({WORD - 1})", answer=(0, 0))
     reading(f"3^({WORD})", answer=(5, 3))
 
+
+def exponents():
     reading("x^63", answer=(0, 0))
     for text in "x^66 x^100 x^640".split():
         reading(text, answer=(6, 2))
@@ -698,6 +712,8 @@ def limits():
     reading("3^(x^65)", answer=(6, 5))
     reading("(x^65)^2", answer=(6, 3))
 
+
+def node_counts():
     reading("-x{63:+x}", "-x" + "+x" * 63, answer=(0, 0), count=128)
     reading("--x{63:+x}", "--x" + "+x" * 63, answer=(7, 0))
     reading("{127:-}x", "-" * 127 + "x", answer=(0, 0), count=128)
@@ -717,14 +733,15 @@ def limits():
 
 
 def bases():
-    even = f"0^(x) {WORD - 2}^(x) (1+1)^(x) (3-1)^(x) (2*3)^(x) (-2)^(x) -2^(x) (2^1)^(x) (4^64)^(x) (3^(2)+1)^(x)".split()
-    even += ["((3^(2)-1)*3)^(x)"]
-    for text in (f"1^(0) 0^(x) {WORD - 1}^(x) {WORD - 2}^(x) (1+1)^(x) (1+2)^(x) (4-1)^(x) (3-1)^(x) (3*5)^(x) (2*3)^(x) "
-                 "(0-1)^(x) (-2)^(x) --3^(x) -2^(x) (2^0)^(x) (0^0)^(x) (2^1)^(x) (3^64)^(x) (4^64)^(x) (3^(2))^(x) "
-                 f"(3^(2)+1)^(x) (3*5^(7)-2)^(x) ({WORD - 1}*2+1)^(x) ((3^(2)-1)*3)^(x)").split():
-        reading(text, answer=(8, text.rindex("^")) if text in even else (0, 0))
-    for text in "(x)^(2) (-x)^(2) (x-x+1)^(2) (1^x)^(2) ((x+1)^0)^(2) (3^(x))^(2) (3^(0*x))^(2)".split():
-        reading(text)
+    odd = (f"1^(0) {WORD - 1}^(x) (1+2)^(x) (4-1)^(x) (3*5)^(x) (0-1)^(x) --3^(x) (2^0)^(x) (0^0)^(x) (3^64)^(x) "
+           f"(3^(2))^(x) (3*5^(7)-2)^(x) ({WORD - 1}*2+1)^(x)")
+    even = (f"0^(x) {WORD - 2}^(x) (1+1)^(x) (3-1)^(x) (2*3)^(x) (-2)^(x) -2^(x) (2^1)^(x) (4^64)^(x) (3^(2)+1)^(x) "
+            "((3^(2)-1)*3)^(x)")
+    with_x = "(x)^(2) (-x)^(2) (x-x+1)^(2) (1*x^0)^(2) ((x+1)^0)^(2) (3^(x))^(2) (3^(0*x))^(2)"
+    for text in odd.split():
+        reading(text, answer=(0, 0))
+    for text in even.split() + with_x.split():
+        reading(text, answer=(8, text.rindex("^")))
     reading("3^(x)+2^(x)", answer=(8, 7))
     reading("2^(x)*4^(x)", answer=(8, 1))
     reading("3^(2^(x))", answer=(8, 4))
@@ -735,8 +752,10 @@ def bases():
     reading("3^(x)-(5^(x)+x^(x))", answer=(8, 14))
 
 
-def orders():
-    """Texts to which several refusals apply."""
+EVERYTHING = f"2^(x^65+{WORD})"
+
+
+def size_first():
     for name, text in (
             ("{1025:(}", "(" * 1025),
             ("{1025:)}", ")" * 1025),
@@ -747,14 +766,15 @@ def orders():
         assert len(text) == 1025, name
         reading(name, text, answer=(2, 1024))
 
-    everything = f"2^(x^65+{WORD})"
     reading("{33:(}x", "(" * 33 + "x", answer=(3, 32))
     for name, text in (
             (f"{WORD}", f"{WORD}"), ("x^65", "x^65"), ("{129:-}x", "-" * 129 + "x"), ("2^(x)", "2^(x)"),
-            (f"{{129:-}}{everything}", "-" * 129 + everything)):
+            (f"{{129:-}}{EVERYTHING}", "-" * 129 + EVERYTHING)):
         reading(f"{{33:(}}{name}{{33:)}}", "(" * 33 + text + ")" * 33, answer=(3, 32))
     reading(f"{WORD}+x^65+{{33:(}}2^(x){{33:)}}", f"{WORD}+x^65+" + "(" * 33 + "2^(x)" + ")" * 33, answer=(3, 58))
 
+
+def smaller_number_first():
     reading(f"{WORD})", answer=(4, 20))
     reading(f"{WORD}+", answer=(4, 21))
     reading("x^65)", answer=(4, 4))
@@ -763,14 +783,14 @@ def orders():
     reading("{129:-}", "-" * 129, answer=(4, 129))
     reading("2^(x))", answer=(4, 5))
     reading("2^(x)+", answer=(4, 6))
-    reading(f"{{129:-}}{everything}?", "-" * 129 + everything + "?", answer=(4, 158))
+    reading(f"{{129:-}}{EVERYTHING}?", "-" * 129 + EVERYTHING + "?", answer=(4, 158))
     reading(f"x^65+{WORD}", answer=(5, 5))
     reading(f"{WORD}+x^65", answer=(5, 0))
     reading(f"{{129:-}}{WORD}", "-" * 129 + f"{WORD}", answer=(5, 129))
     reading(f"2^({WORD})", answer=(5, 3))
     reading(f"2^(x)+{WORD}", answer=(5, 6))
     reading(f"{WORD}+2^(x)", answer=(5, 0))
-    reading(f"{{129:-}}{everything}", "-" * 129 + everything, answer=(5, 137))
+    reading(f"{{129:-}}{EVERYTHING}", "-" * 129 + EVERYTHING, answer=(5, 137))
     reading("{129:-}x^65", "-" * 129 + "x^65", answer=(6, 131))
     reading("2^(x^65)", answer=(6, 5))
     reading("2^(x)+x^65", answer=(6, 8))
@@ -802,8 +822,16 @@ if __name__ == "__main__":
     documents()
     sequences()
     probes()
-    formulas()
-    limits()
+    texts_of_the_documents()
+    grammar_texts()
+    strange_bytes()
+    text_lengths()
+    brackets()
+    surplus_brackets()
+    numbers()
+    exponents()
+    node_counts()
     bases()
-    orders()
+    size_first()
+    smaller_number_first()
     lent_words()

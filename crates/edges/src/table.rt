@@ -1,13 +1,13 @@
 // Tables of cases: a line each, a name and a body with a bar between them.
-// The kind of a table says what its bodies are: postfix text, three words for the probe, or how many words a reading is lent.
+// The kind of a table says what its bodies are: postfix text, three words for the probe, or how many words a formula is lent.
 use crate::notation;
 use crate::postfix;
 use crate::print;
 use crate::text;
 ghost use Prim.Native.Nat.{_≤_};
 
-// A chain's answer, a chain's present value, its first 20 values; a reading, what was expected and a tolerance; or a formula, whose text
-// is the name.
+// A chain's answer, a chain's present value, its first 20 values; a reading, what was expected and a tolerance; or a formula, whose name
+// is its text.
 pub enum Kind {
     Chain,
     Value,
@@ -86,14 +86,9 @@ fn lent(body: &[u8], most: usize) -> usize
     count
 }
 
-// Reads the text that the notation stands for.
-fn read(notation: &[u8], bytes: &mut [u8], tree: &mut [u64]) -> formula::ReadAnswer {
-    let length = notation::expand(notation, bytes);
-    formula::read(text::part(bytes, 0, length), tree)
-}
-
 fn read_case(name: &[u8], body: &[u8], bytes: &mut [u8], tree: &mut [u64]) {
+    let length = notation::expand(name, bytes);
     let count = lent(body, tree.len());
-    let answer = read(name, bytes, &mut tree[0..count]);
+    let answer = formula::read(text::part(bytes, 0, length), &mut tree[0..count]);
     print::reading(name, body, answer, tree);
 }
