@@ -1,0 +1,104 @@
+-- The rows of a plan, one after the other: where row r stands, and soundness, cost and values of rows put together.
+use mathlib.Core.Path.{_≡_, refl, sym, ap, ap₂, _∙_}
+use mathlib.Core.Bool.{_&&_, and-assoc}
+use mathlib.Core.List.{List, [], _∷_, _++_, append-assoc, append-nil}
+use Prim.Native.Nat.{ℕ, zero, suc, _+_, _-_, _*_, _≤_, _<_}
+use native.Mathlib.Nat.{zero-add, add-zero, suc-add, sub-zero, zero-sub, suc-sub-suc}
+use native.Mathlib.Omega.{arith}
+use lib.ListN.{length, getD, take, drop, length-drop}
+use lib.Seq.{slice, take-all, drop-drop, length-slice, take-nil, getD-drop, getD-take}
+use Rattle.plan.specs.Row.{Row, rowCost, soundRow}
+use Rattle.plan.specs.Plan.{row, rowsFrom, firstRows, soundFrom, costOf}
+use Rattle.plan.specs.Points.{rowValue, valuesFrom}
+
+-- ---- parts, as the code lends them: the words from i up to n, and what a part leaves when it is put back
+abbrev pub part : ℕ → ℕ → List ℕ → List ℕ
+part i n l = take (n - i) (drop i l)
+
+pub tail-part : (n : ℕ) (l : List ℕ) → part n (length l) l ≡ drop n l
+tail-part n l = take-all (length l - n) (drop n l) (rw (length-drop n l) (omega arith))
+
+pub slice-part : (i n : ℕ) (l : List ℕ) → slice i n l ≡ part i n l
+slice-part zero n l = ap (λ k. take k l) (sym (sub-zero n))
+slice-part (suc i) zero l = ap (λ k. take k (drop (suc i) l)) (sym (zero-sub (suc i)))
+slice-part (suc i) (suc n) [] = sym (take-nil (suc n - suc i))
+slice-part (suc i) (suc n) (a ∷ l) = slice-part i n l ∙ ap (λ k. take k (drop i l)) (sym (suc-sub-suc n i))
+
+abbrev pub partPut : ℕ → ℕ → List ℕ → List ℕ → List ℕ
+partPut i n l new = take i l ++ (new ++ drop (n - i) (drop i l))
+
+pub part-put : (i n : ℕ) (l new : List ℕ) → i ≤ n → partPut i n l new ≡ take i l ++ new ++ drop n l
+part-put i n l new h =
+    ap (λ f. take i l ++ (new ++ f)) (drop-drop (n - i) i l ∙ ap (λ k. drop k l) end) ∙ sym (append-assoc (take i l) new (drop n l))
+  where
+    end : i + (n - i) ≡ n
+    end = omega arith
+
+-- ---- where row r stands
+abbrev pub rowPart : List ℕ → ℕ → List ℕ
+rowPart p r = part (1 + 20 * r) (1 + 20 * r + 20) p
+
+pub row-part : (p : List ℕ) (r : ℕ) → row p r ≡ rowPart p r
+row-part p r = slice-part (1 + 20 * r) (1 + 20 * r + 20) p
+
+pub row-at : (p : List ℕ) (r : ℕ) → row p r ≡ take 20 (drop (20 * r) (drop 1 p))
+row-at p r =
+    row-part p r ∙ ap₂ (λ n f. take n f) twenty (sym (drop-drop (20 * r) 1 p))
+  where
+    twenty : 1 + 20 * r + 20 - (1 + 20 * r) ≡ 20
+    twenty = omega arith
+
+pub length-row : (p : List ℕ) (r : ℕ) → r < 128 → 2561 ≤ length p → length (row p r) ≡ 20
+length-row p r h long = length-slice (1 + 20 * r) (1 + 20 * r + 20) p (omega arith) ∙ omega arith
+
+-- Word j of row r in the plan.
+pub word-at : (p : List ℕ) (r j : ℕ) → j < 20 → getD (row p r) j 0 ≡ getD p (1 + 20 * r + j) 0
+word-at p r j h =
+    getD-drop (1 + 20 * r) (take (1 + 20 * r + 20) p) j 0 ∙ getD-take (1 + 20 * r + 20) p (1 + 20 * r + j) 0 (omega arith)
+
+pub rows-add : (n m : ℕ) (f : List ℕ) → rowsFrom (n + m) f ≡ rowsFrom n f ++ rowsFrom m (drop (20 * n) f)
+unfolding rowsFrom
+rows-add zero m f = rw (zero-add m)
+rows-add (suc n) m f =
+    rw (suc-add n m)
+    (ap {B = List Row} (λ rows. take 20 f ∷ rows)
+    (rows-add n m (drop 20 f) ∙ ap (λ g. rowsFrom n (drop 20 f) ++ rowsFrom m g) (drop-drop (20 * n) 20 f ∙ ap (λ k. drop k f) turns)))
+  where
+    turns : 20 + 20 * n ≡ 20 * suc n
+    turns = omega arith
+
+-- Row r follows the first r rows.
+pub rows-next : (r : ℕ) (p : List ℕ) → firstRows (r + 1) p ≡ firstRows r p ++ row p r ∷ []
+unfolding rowsFrom
+rows-next r p = rows-add r 1 (drop 1 p) ∙ ap (λ x. firstRows r p ++ x ∷ []) (sym (row-at p r))
+
+pub length-rows : (n : ℕ) (f : List ℕ) → length (rowsFrom n f) ≡ n
+unfolding rowsFrom
+length-rows zero f = refl
+length-rows (suc n) f = ap suc (length-rows n (drop 20 f))
+
+-- ---- rows put together
+pub sound-append : (earlier f g : List Row) → soundFrom earlier (f ++ g) ≡ (soundFrom earlier f && soundFrom (earlier ++ f) g)
+unfolding soundFrom
+sound-append earlier [] g = ap (λ e. soundFrom e g) (sym (append-nil earlier))
+sound-append earlier (row ∷ f) g =
+    ap (λ b. soundRow earlier row && b)
+    (sound-append (earlier ++ row ∷ []) f g ∙ ap (λ e. soundFrom (earlier ++ row ∷ []) f && soundFrom e g) (append-assoc earlier (row ∷ []) f))
+    ∙ sym (and-assoc (soundRow earlier row) (soundFrom (earlier ++ row ∷ []) f) (soundFrom (earlier ++ row ∷ f) g))
+
+pub cost-append : (f g : List Row) → costOf (f ++ g) ≡ costOf f + costOf g
+unfolding costOf
+cost-append [] g = omega arith
+cost-append (row ∷ f) g = ap (λ n. rowCost row + n) (cost-append f g) ∙ omega arith
+
+pub values-append : (w : ℕ) (earlier : List ℕ) (f g : List Row) → valuesFrom w earlier (f ++ g) ≡ valuesFrom w (valuesFrom w earlier f) g
+unfolding valuesFrom
+values-append w earlier [] g = refl
+values-append w earlier (row ∷ f) g = values-append w (earlier ++ rowValue w earlier row ∷ []) f g
+
+pub cost-next : (r : ℕ) (p : List ℕ) → costOf (firstRows r p) + rowCost (rowPart p r) ≡ costOf (firstRows (r + 1) p)
+unfolding costOf
+cost-next r p =
+    ap (λ n. costOf (firstRows r p) + n) (ap (λ x. rowCost x) (sym (row-part p r)) ∙ sym (add-zero (rowCost (row p r))))
+    ∙ sym (cost-append (firstRows r p) (row p r ∷ []))
+    ∙ ap costOf (sym (rows-next r p))

@@ -1,0 +1,239 @@
+-- What soundness says of numbers: the words of a row that keeps the table, and each row of a sound plan.
+use mathlib.Core.Path.{_≡_, refl, sym, ap, ap₂, subst, _∙_}
+use mathlib.Core.Bool.{Bool, true, false, cond, _&&_, and-false, false≢true}
+use mathlib.Core.List.{List, [], _∷_, _++_}
+use Prim.Native.Nat.{ℕ, zero, suc, _+_, _-_, _*_, _≤_, _<_}
+use native.Mathlib.Nat.{add-zero, not-suc-le-zero, le-of-suc-le-suc}
+use native.Mathlib.Omega.{arith}
+use lib.Dec.{leb, ltb, eqb}
+use lib.ListN.{length, getD, drop}
+use lib.Seq.{drop-drop, getD-at}
+use borrow.Author.Tests.{ltb-true, leb-true, eqb-true, eqb-false, eq-eqb, ne-eqb}
+use Rattle.plan.specs.declared.kinds.Kind.{Kind}
+use Rattle.plan.specs.Row.{Row, kind, wordA, wordB, costing, kindTable, kindFacts, fixedCost, operandCount, isChain, rowCost, between, soundA, soundB, elementsUsed, allZero, keepsTable, oddConstant, soundBase, soundRow}
+use Rattle.plan.specs.Plan.{rowCount, row, rowsFrom, firstRows, rows, soundFrom, sound}
+use Rattle.plan.proofs.RowLaws.{rowPart, row-part, row-at, length-row, word-at, rows-add, rows-next, length-rows, sound-append}
+
+-- ---- both of two tests
+pub and-left : (a b : Bool) → (a && b) ≡ true → a ≡ true
+and-left true b e = refl
+and-left false b e = e
+
+pub and-right : (a b : Bool) → (a && b) ≡ true → b ≡ true
+and-right true b e = e
+and-right false b e = absurd (false≢true e)
+
+-- One of two tests holds, the one that is asked for.
+pub one-of : {P : Type 0} (asked a b : Bool) → cond asked a b ≡ true → (asked ≡ true → a ≡ true → P) → (asked ≡ false → b ≡ true → P) → P
+one-of true a b e first second = first refl e
+one-of false a b e first second = second refl e
+
+within : (least greatest n : ℕ) → between least greatest n ≡ true → (least ≤ n) × (n ≤ greatest)
+within least greatest n e =
+    (leb-true least n (and-left (leb least n) (leb n greatest) e), leb-true n greatest (and-right (leb least n) (leb n greatest) e))
+
+-- ---- zeros
+pub all-zero-next : (f : List ℕ) (i : ℕ) → i < length f → allZero (drop i f) ≡ (eqb (getD f i 0) 0 && allZero (drop (suc i) f))
+unfolding allZero
+all-zero-next [] i h = absurd (not-suc-le-zero h)
+all-zero-next (a ∷ f) zero h = refl
+all-zero-next (a ∷ f) (suc i) h = all-zero-next f i (le-of-suc-le-suc h)
+
+-- ---- the words of a row that keeps the table
+pub a-small : (r k a : ℕ) → r ≤ 128 → soundA r k a ≡ true → a < 128
+a-small r k a few e =
+    one-of (isChain k) (between 1 16 a) (cond (ltb 0 (operandCount k)) (ltb a r) (eqb a 0)) e
+    (λ chain e. omega (arith, within 1 16 a e))
+    (λ other e.
+    one-of (ltb 0 (operandCount k)) (ltb a r) (eqb a 0) e (λ operator e. omega (arith, ltb-true a r e)) (λ none e. omega (arith, eqb-true a 0 e)))
+
+b-small : (r k b : ℕ) → r ≤ 128 → soundB r k b ≡ true → b < 128
+b-small r k b few e =
+    one-of (eqb k 7) (between 2 64 b) (cond (eqb (operandCount k) 2) (ltb b r) (eqb b 0)) e
+    (λ power e. omega (arith, within 2 64 b e))
+    (λ other e.
+    one-of (eqb (operandCount k) 2) (ltb b r) (eqb b 0) e (λ operator e. omega (arith, ltb-true b r e)) (λ none e. omega (arith, eqb-true b 0 e)))
+
+pub chain-length : (r k a : ℕ) → isChain k ≡ true → soundA r k a ≡ true → a ≤ 16
+chain-length r k a chain e = within 1 16 a (sym (ap (λ b. cond b (between 1 16 a) (cond (ltb 0 (operandCount k)) (ltb a r) (eqb a 0))) chain) ∙ e) .1
+
+pub used-most : (r k a : ℕ) → soundA r k a ≡ true → elementsUsed k a ≤ 17
+used-most r k a e = used (eqb k 0) (isChain k) refl
+  where
+    used : (constant chain : Bool) → isChain k ≡ chain → cond constant 1 (cond chain (a + 1) 0) ≤ 17
+    used true chain _ = omega arith
+    used false true chain = omega (arith, chain-length r k a chain e)
+    used false false _ = omega arith
+
+-- The tests of the table, one by one.
+module _ (r : ℕ) (row : Row) (kept : keepsTable r row ≡ true) where
+  pub kept-kind : kind row < 9
+  kept-kind = ltb-true (kind row) 9 (and-left (ltb (kind row) 9) _ kept)
+
+  pub kept-a : soundA r (kind row) (wordA row) ≡ true
+  kept-a = and-left (soundA r (kind row) (wordA row)) _ (and-right (ltb (kind row) 9) _ kept)
+
+  pub kept-b : soundB r (kind row) (wordB row) ≡ true
+  kept-b =
+      and-left (soundB r (kind row) (wordB row)) _
+      (and-right (soundA r (kind row) (wordA row)) _ (and-right (ltb (kind row) 9) _ kept))
+
+  pub kept-length : isChain (kind row) ≡ true → wordA row ≤ 16
+  kept-length chain = chain-length r (kind row) (wordA row) chain kept-a
+
+  pub kept-exponent : kind row ≡ 7 → 2 ≤ wordB row
+  kept-exponent e =
+      one-of (eqb (kind row) 7) (between 2 64 (wordB row)) (cond (eqb (operandCount (kind row)) 2) (ltb (wordB row) r) (eqb (wordB row) 0)) kept-b
+      (λ power e. within 2 64 (wordB row) e .0)
+      (λ other _. absurd (eqb-false (kind row) 7 other e))
+
+  pub kept-base : kind row ≡ 8 → wordA row < r
+  unfolding kindFacts
+  kept-base e = ltb-true (wordA row) r (subst (λ k. soundA r k (wordA row) ≡ true) e kept-a)
+
+  module _ (few : r ≤ 128) where
+    pub kept-a-small : wordA row < 128
+    kept-a-small = a-small r (kind row) (wordA row) few kept-a
+
+    pub kept-b-small : wordB row < 128
+    kept-b-small = b-small r (kind row) (wordB row) few kept-b
+
+-- ---- no row costs more than 128
+costs-at-most : ℕ → List Kind → Bool
+costs-at-most most [] = true
+costs-at-most most (k ∷ more) = leb (k .cost) most && costs-at-most most more
+
+cost-at-most : (most : ℕ) (table : List Kind) → costs-at-most most table ≡ true → (k : ℕ) (d : Kind) → d .cost ≤ most → getD table k d .cost ≤ most
+unfolding costs-at-most
+cost-at-most most [] e k d h = h
+cost-at-most most (x ∷ more) e zero d h = leb-true (x .cost) most (and-left (leb (x .cost) most) (costs-at-most most more) e)
+cost-at-most most (x ∷ more) e (suc k) d h = cost-at-most most more (and-right (leb (x .cost) most) (costs-at-most most more) e) k d h
+
+fixed-cost-most : (k : ℕ) → fixedCost k ≤ 128
+unfolding kindFacts costs-at-most
+fixed-cost-most k = cost-at-most 128 kindTable refl k (costing 0 0) (omega arith)
+
+row-cost-most : (r : ℕ) (row : Row) → r ≤ 128 → keepsTable r row ≡ true → rowCost row ≤ 128
+row-cost-most r row few kept = most (isChain (kind row)) (eqb (kind row) 7)
+  where
+    most : (chain power : Bool) → cond chain (wordA row) (cond power (wordB row - 1) (fixedCost (kind row))) ≤ 128
+    most true power = omega (arith, kept-a-small r row kept few)
+    most false true = omega (arith, kept-b-small r row kept few)
+    most false false = fixed-cost-most (kind row)
+
+-- ---- the rows of a sound plan
+pub sound-count : (p : List ℕ) → sound p ≡ true → (1 ≤ rowCount p) × (rowCount p ≤ 128)
+unfolding sound
+sound-count p e = within 1 128 (rowCount p) (and-left (between 1 128 (rowCount p)) _ e)
+
+pub sound-rows : (p : List ℕ) → sound p ≡ true → soundFrom [] (rows p) ≡ true
+unfolding sound
+sound-rows p e = and-left (soundFrom [] (rows p)) _ (and-right (between 1 128 (rowCount p)) _ e)
+
+-- Row r of the first n rows, and whether they are all sound.
+pub rows-split : (n r : ℕ) (p : List ℕ) → r < n
+    → firstRows n p ≡ firstRows r p ++ row p r ∷ rowsFrom (n - suc r) (drop (20 * suc r) (drop 1 p))
+unfolding rowsFrom
+rows-split n r p h =
+    ap (λ k. firstRows k p) parts
+    ∙ rows-add r (suc (n - suc r)) (drop 1 p)
+    ∙ ap₂ (λ x f. firstRows r p ++ x ∷ rowsFrom (n - suc r) f) (sym (row-at p r)) (drop-drop 20 (20 * r) (drop 1 p) ∙ ap (λ k. drop k (drop 1 p)) next)
+  where
+    parts : n ≡ r + suc (n - suc r)
+    parts = omega arith
+
+    next : 20 * r + 20 ≡ 20 * suc r
+    next = omega arith
+
+pub sound-split : (n r : ℕ) (p : List ℕ) → r < n
+    → soundFrom [] (firstRows n p)
+    ≡ (soundFrom [] (firstRows r p) && (soundRow (firstRows r p) (row p r)
+    && soundFrom (firstRows r p ++ row p r ∷ []) (rowsFrom (n - suc r) (drop (20 * suc r) (drop 1 p)))))
+unfolding soundFrom
+sound-split n r p h = ap (λ f. soundFrom [] f) (rows-split n r p h) ∙ sound-append [] (firstRows r p) _
+
+pub sound-row : (p : List ℕ) (r : ℕ) → sound p ≡ true → r < rowCount p → soundRow (firstRows r p) (row p r) ≡ true
+sound-row p r e h =
+    and-left _ _ (and-right (soundFrom [] (firstRows r p)) _ (sym (sound-split (rowCount p) r p h) ∙ sound-rows p e))
+
+pub sound-keeps : (p : List ℕ) (r : ℕ) → sound p ≡ true → r < rowCount p → keepsTable r (row p r) ≡ true
+sound-keeps p r e h =
+    subst (λ n. keepsTable n (row p r) ≡ true) (length-rows r (drop 1 p)) (and-left (keepsTable (length (firstRows r p)) (row p r)) _ (sound-row p r e h))
+
+-- ---- one row after the other, as the code judges them
+pub kind-at : (p : List ℕ) (r : ℕ) → kind (row p r) ≡ getD p (1 + 20 * r) 0
+kind-at p r = word-at p r 0 (omega arith) ∙ ap (λ n. getD p n 0) (add-zero (1 + 20 * r))
+
+-- Row i of the first r rows.
+pub earlier-row : (p : List ℕ) (r i : ℕ) → i < r → getD (firstRows r p) i [] ≡ row p i
+earlier-row p r i h =
+    ap (λ f. getD f i []) (rows-split r i p h)
+    ∙ getD-at (firstRows i p) (row p i) (rowsFrom (r - suc i) (drop (20 * suc i) (drop 1 p))) [] i (length-rows i (drop 1 p))
+
+module _ (p : List ℕ) (r : ℕ) where
+  row-sound : soundRow (firstRows r p) (row p r) ≡ (keepsTable r (row p r) && soundBase (firstRows r p) (row p r))
+  row-sound = ap (λ n. keepsTable n (row p r) && soundBase (firstRows r p) (row p r)) (length-rows r (drop 1 p))
+
+  pub table-broken : keepsTable r (row p r) ≡ false → soundRow (firstRows r p) (row p r) ≡ false
+  table-broken e = row-sound ∙ ap (λ b. b && soundBase (firstRows r p) (row p r)) e
+
+  module _ (kept : keepsTable r (row p r) ≡ true) where
+    judged : soundRow (firstRows r p) (row p r) ≡ soundBase (firstRows r p) (row p r)
+    judged = row-sound ∙ ap (λ b. b && soundBase (firstRows r p) (row p r)) kept
+
+    pub no-raise : (getD p (1 + 20 * r) 0 ≡ 8 → ⊥) → soundRow (firstRows r p) (row p r) ≡ true
+    no-raise other =
+        judged
+        ∙ ap (λ b. cond b (oddConstant (getD (firstRows r p) (wordA (row p r)) [])) true) (ne-eqb (kind (row p r)) 8 (λ e. other (sym (kind-at p r) ∙ e)))
+
+    module _ (raise : getD p (1 + 20 * r) 0 ≡ 8) where
+      pub base-earlier : getD p (1 + 20 * r + 1) 0 < r
+      base-earlier = subst (λ a. a < r) (word-at p r 1 (omega arith)) (kept-base r (row p r) kept (kind-at p r ∙ raise))
+
+      pub raise-sound : soundRow (firstRows r p) (row p r) ≡ oddConstant (rowPart p (getD p (1 + 20 * r + 1) 0))
+      raise-sound =
+          judged
+          ∙ ap₂ (λ b a. cond b (oddConstant (getD (firstRows r p) a [])) true) (eq-eqb (kind (row p r)) 8 (kind-at p r ∙ raise)) (word-at p r 1 (omega arith))
+          ∙ ap (λ x. oddConstant x) (earlier-row p r (getD p (1 + 20 * r + 1) 0) base-earlier ∙ row-part p (getD p (1 + 20 * r + 1) 0))
+
+  pub sound-next : soundFrom [] (firstRows r p) ≡ true → soundRow (firstRows r p) (row p r) ≡ true → soundFrom [] (firstRows (r + 1) p) ≡ true
+  unfolding soundFrom
+  sound-next before here =
+      ap (λ f. soundFrom [] f) (rows-next r p)
+      ∙ sound-append [] (firstRows r p) (row p r ∷ [])
+      ∙ ap₂ (λ a b. a && (b && true)) before here
+
+  pub sound-not : (n : ℕ) → r < n → soundRow (firstRows r p) (row p r) ≡ false → soundFrom [] (firstRows n p) ≡ false
+  sound-not n h here =
+      sound-split n r p h
+      ∙ ap (λ b. soundFrom [] (firstRows r p) && (b && soundFrom (firstRows r p ++ row p r ∷ []) (rowsFrom (n - suc r) (drop (20 * suc r) (drop 1 p))))) here
+      ∙ and-false (soundFrom [] (firstRows r p))
+
+-- ---- row r of a sound plan, as the code lends it
+module _ (p : List ℕ) (r : ℕ) (long : 2561 ≤ length p) (e : sound p ≡ true) (h : r < rowCount p) where
+  few : r < 128
+  few = omega (arith, sound-count p e)
+
+  keeps : keepsTable r (row p r) ≡ true
+  keeps = sound-keeps p r e h
+
+  pub part-length : length (rowPart p r) ≡ 20
+  part-length = subst (λ x. length x ≡ 20) (row-part p r) (length-row p r few long)
+
+  pub part-kind : kind (rowPart p r) < 9
+  part-kind = subst (λ x. kind x < 9) (row-part p r) (kept-kind r (row p r) keeps)
+
+  pub part-exponent : kind (rowPart p r) ≡ 7 → 1 ≤ wordB (rowPart p r)
+  part-exponent = subst (λ x. kind x ≡ 7 → 1 ≤ wordB x) (row-part p r) (λ k. omega (arith, kept-exponent r (row p r) keeps k))
+
+  pub part-chain : isChain (kind (rowPart p r)) ≡ true → wordA (rowPart p r) ≤ 16
+  part-chain = subst (λ x. isChain (kind x) ≡ true → wordA x ≤ 16) (row-part p r) (kept-length r (row p r) keeps)
+
+  pub part-a : wordA (rowPart p r) < 128
+  part-a = subst (λ x. wordA x < 128) (row-part p r) (kept-a-small r (row p r) keeps (omega (arith, few)))
+
+  pub part-b : wordB (rowPart p r) < 128
+  part-b = subst (λ x. wordB x < 128) (row-part p r) (kept-b-small r (row p r) keeps (omega (arith, few)))
+
+  pub part-cost : rowCost (rowPart p r) ≤ 128
+  part-cost = subst (λ x. rowCost x ≤ 128) (row-part p r) (row-cost-most r (row p r) (omega (arith, few)) keeps)
