@@ -128,10 +128,11 @@ pub fn fill(plan: &mut [u64], table: &mut [u64], budget: u64) -> FillAnswer
     let point_cost = costs::plan_cost(plan) + 1;
     let points = lesser(table.len(), (budget / point_cost) as usize);
     fill_table(plan, &mut table[0..points]);
+    let spent = points as u64 * point_cost;
     FillAnswer {
         number: 0,
         place: 0,
         points,
-        spent: points as u64 * point_cost,
+        spent,
     }
 }

@@ -48,8 +48,8 @@ fill-table-requires c κs =
     let plan = c .before .before .before .before .before .before .before .before .before .before .args .plan .now in
     accepted plan (sym (c .before .before .before .before .before .before .refusal .ensures) ∙ (c .before .before .before .before .before .if1 .left))
 
-mul-t21 : tie.Need-mul-t21
-mul-t21 c =
+mul-spent : tie.Need-mul-spent
+mul-spent c =
     let table = c .before .before .before .before .before .before .before .before .before .before .before .before .before .before .before .args .table .now in
     let budget = c .before .before .before .before .before .before .before .before .before .before .before .before .before .before .before .args .budget in
     omega (
@@ -91,7 +91,7 @@ fill-spec =
     part-fill-table-start
     part-fill-table-end
     fill-table-requires
-    mul-t21
+    mul-spent
     same-length-2
     same-length-3
     returns-2)
