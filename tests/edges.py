@@ -7,8 +7,13 @@ a shift begins one index later, and the elements are the repeated differences of
 is evaluated as it stands. The probe is a difference of whole numbers. A formula is read by Earley's method: the grammar
 is a list of rules, and each place of the text has the set of the rules that can be under way there. Every refusal that
 applies is worked out, and the least one counts. A text that can't be printed or is long has a name in the notation of
-the program's tables, {33:(} for 33 brackets and <10> for the byte 10."""
-from math import comb
+the program's tables, {33:(} for 33 brackets and <10> for the byte 10. A plan is held to document 01's table line by
+line. Its value at a point is the root's, taken down the rows, where a chain has its value at that index; no chain is
+shifted step by step. After a filling, element j of a chain is the value that the chain from j on has at the number of
+points written. A plan's name is the line of the program's table, made from the rows."""
+from functools import cache
+from itertools import groupby
+from math import comb, prod
 
 WORD = 2**64
 HALF = 2**63
@@ -275,6 +280,190 @@ def reading(name, text=None, answer=None, count=None, lent=None):
 def readings(texts):
     for text in texts.split():
         reading(text)
+
+
+# ---- plans
+
+PLAN_WORDS = 2561
+ROW_WORDS = 20
+ROWS = 128
+UNWRITTEN = 999  # stands in every word of a table before it is lent
+BUDGET = 999  # where a line of the program's tables gives none
+
+
+def unused(word, rows, r):
+    return word == 0
+
+
+def chain_length(word, rows, r):
+    return 1 <= word <= 16
+
+
+def earlier(word, rows, r):
+    return word < r
+
+
+def literal(word, rows, r):
+    return 2 <= word <= 64
+
+
+def odd_constant(word, rows, r):
+    return earlier(word, rows, r) and rows[word][0] == 0 and rows[word][3] % 2 == 1
+
+
+# Document 01's table: for each kind what a and b must be, how many elements are in use, and the cost.
+CONSTANT = (unused, unused, lambda a: 1, lambda a, b: 0)
+CHAIN = (chain_length, unused, lambda a: a + 1, lambda a, b: a)
+PAIR = (earlier, earlier, lambda a: 0, lambda a, b: 1)
+MINUS = (earlier, unused, lambda a: 0, lambda a, b: 1)
+POWER = (earlier, literal, lambda a: 0, lambda a, b: b - 1)
+RAISE = (odd_constant, earlier, lambda a: 0, lambda a, b: 128)
+KINDS = [CONSTANT, CHAIN, CHAIN, PAIR, PAIR, PAIR, MINUS, POWER, RAISE]
+
+
+def rows_of(words):
+    return [words[1 + ROW_WORDS * r:1 + ROW_WORDS * (r + 1)] for r in range(ROWS)]
+
+
+def keeps_table(rows, r):
+    kind, a, b, *elements_of_row = rows[r]
+    if kind >= len(KINDS):
+        return False
+    good_a, good_b, used, _ = KINDS[kind]
+    return good_a(a, rows, r) and good_b(b, rows, r) and not any(elements_of_row[used(a):])
+
+
+def plan_refusal(words):
+    if len(words) < PLAN_WORDS:
+        return 1
+    count, rows = words[0], rows_of(words)
+    sound = (1 <= count <= ROWS and all(keeps_table(rows, r) for r in range(count))
+             and not any(any(row) for row in rows[count:]))
+    return 0 if sound else 9
+
+
+def plan_cost(words):
+    return sum(KINDS[kind][3](a, b) for kind, a, b, *_ in rows_of(words)[:words[0]])
+
+
+def product_at(f, i):
+    """The value at index i of the product chain with elements f: as for sums, with powers for multiples."""
+    return prod(pow(e, comb(i, j), WORD) for j, e in enumerate(f))
+
+
+CHAIN_AT = {1: at, 2: product_at}
+
+
+def root_value(words, i):
+    """The value of the last row, i points on."""
+    rows = rows_of(words)
+
+    @cache
+    def row_value(r):
+        kind, a, b, *f = rows[r]
+        if kind == 0:
+            return f[0]
+        if kind in CHAIN_AT:
+            return CHAIN_AT[kind](f[:a + 1], i) % WORD
+        if kind == 6:
+            return WORKED[kind](row_value(a)) % WORD
+        if kind == 7:
+            return pow(row_value(a), b, WORD)
+        return WORKED[kind](row_value(a), row_value(b)) % WORD
+
+    return row_value(words[0] - 1)
+
+
+def moved_on(words, points):
+    """The plan after so many points: a chain's element j is then the value of its elements from j on."""
+    result = list(words)
+    for r, (kind, a, _, *f) in enumerate(rows_of(words)[:words[0]]):
+        if kind in CHAIN_AT:
+            start = 1 + ROW_WORDS * r + 3
+            result[start:start + a + 1] = [CHAIN_AT[kind](f[j:a + 1], points) % WORD for j in range(a + 1)]
+    return result
+
+
+def filling(words, table, budget):
+    """Refusal, cost, points, budget spent, and the words of the plan and of the table afterwards."""
+    refusal = plan_refusal(words)
+    if refusal:
+        return refusal, 0, 0, 0, words, table
+    cost = plan_cost(words)
+    points = min(len(table), budget // (cost + 1))
+    written = [root_value(words, i) for i in range(points)]
+    return 0, cost, points, points * (cost + 1), moved_on(words, points), written + table[points:]
+
+
+def checksum(words):
+    return sum(i * word for i, word in enumerate(words, 1)) % WORD
+
+
+def shown_row(row):
+    last = max((i for i, word in enumerate(row) if word), default=0)
+    return ",".join(map(str, row[:last + 1]))
+
+
+def runs(parts, least):
+    """The parts as text, a run of so many or more in the notation of the program's tables."""
+    return "".join(f"{{{count}:{part}}}" if count >= least else part * count
+                   for part, count in ((part, len(list(group))) for part, group in groupby(parts)))
+
+
+def listed(words):
+    text = runs([f"{word}," for word in words], 14)
+    return text.removesuffix(",")
+
+
+# The two rows that begin many of the plans; the program's tables write p for them.
+PAIR_ROWS = [[0, 0, 0, 3], [1, 1, 0, 5, 2]]
+
+
+def plan_text(rows, fills, put, lent):
+    """The plan and its fillings in the notation of the program's tables."""
+    pair = rows[:2] == PAIR_ROWS
+    text = "" if lent == PLAN_WORDS else f"#{lent} "
+    text += "p " * pair + runs([listed(row) + " " for row in rows[2 * pair:]], 60)
+    text += "".join(f"@{place},{listed(words)} " for place, words in put)
+    return text + " ".join(f"t{room}" if budget == BUDGET else f"t{room},{budget}" for room, budget in fills)
+
+
+def put_words(buffer, place, words, r=None):
+    """Writes the words from a place on; ~n in row r is the number of the row n rows before it."""
+    for i, word in enumerate(words, place):
+        buffer[i] = (word if isinstance(word, int) else r - int(word.removeprefix("~"))) % WORD
+
+
+def plan(rows, *fills, put=(), lent=PLAN_WORDS, answer=None, cost=None, values=None, after=None):
+    """A plan of the rows, then words put at their places, lent in a buffer of 3,000 words. A filling is the table's
+    length and the budget. Where the refusal, the cost, the values written first or the first row afterwards are known
+    otherwise, they must agree."""
+    fills = fills or [(2, BUDGET)]
+    words = [0] * 3000
+    words[0] = len(rows)
+    for r, row in enumerate(rows):
+        put_words(words, 1 + ROW_WORDS * r, row, r)
+    for place, planted in put:
+        put_words(words, place, planted)
+    name = plan_text(rows, fills, put, lent)
+    table = [UNWRITTEN] * 4096
+    parts = []
+    for room, budget in fills:
+        parts.append(filled(words, lent, table, room, budget % WORD, name, answer, cost))
+        assert values is None or [value % WORD for value in values] == table[:len(values)], name
+    assert after is None or after == words[1:1 + len(after)], name
+    line(f"plan {name}", "\t".join(parts))
+
+
+def filled(words, lent, table, room, budget, name, answer=None, cost=None):
+    """Fills the lent parts, and says what the program prints."""
+    number, total, points, spent, words[:lent], table[:room] = filling(words[:lent], table[:room], budget)
+    assert answer is None or answer == number, name
+    assert cost is None or cost == total, name
+    shown_rows = "".join(" " + shown_row(row) for row in rows_of(words)[:min(words[0], 10)])
+    return (f"sound {number} 0 cost {number} 0 {total} fill {number} 0 {points} {spent} "
+            f"table {','.join(map(str, table[:min(points, 20) + 2]))} sum {checksum(table)} "
+            f"plan {words[0]}:{shown_rows} sum {checksum(words)}")
 
 
 # ---- the cases
@@ -814,6 +1003,281 @@ def lent_words():
     reading("2^(x)", answer=(8, 1), lent=257)
 
 
+SEVEN = [0, 0, 0, 7]
+NINE = [9]
+X = [1, 1, 0, 0, 1]
+CUBE = [1, 3, 0, 0, 1, 6, 6]
+MOST = -1
+
+
+def row_counts():
+    plan([], answer=9)
+    for count, answer in ((1, 0), (128, 0), (129, 9), (256, 9), (257, 9), (2**32, 9), (2**32 + 1, 9), (HALF + 1, 9),
+                          (-1, 9)):
+        plan([], put=[(0, [count])], answer=answer)
+    plan([SEVEN], answer=0)
+    plan([SEVEN], put=[(0, [0])], answer=9)
+    plan([SEVEN], put=[(0, [2])], answer=0, values=[0, 0])
+    plan([SEVEN, [0, 0, 0, 8]], put=[(0, [1])], answer=9)
+    plan([SEVEN] * 127, answer=0)
+    plan([SEVEN] * 128, answer=0)
+    plan([SEVEN] * 128, put=[(0, [127])], answer=9)
+    plan([SEVEN] * 128, put=[(0, [129])], answer=9)
+    for place in (21, 22, 23, 24, 40, 41, 2540, 2541, 2560):
+        plan([SEVEN], put=[(place, [1])], answer=9)
+    plan([SEVEN], put=[(2560, [-1])], answer=9)
+    for place in (2541, 2560):
+        plan([SEVEN] * 127, put=[(place, [1])], answer=9)
+
+
+def lent_plans():
+    rest = (2561, [9] * 439)
+    for lent in (0, 1, 21, 2560):
+        plan([SEVEN], lent=lent, answer=1)
+    plan([SEVEN], (0, BUDGET), lent=2560, answer=1)
+    plan([SEVEN], (2, 0), lent=2560, answer=1)
+    plan([], lent=2560, answer=1)
+    plan([NINE], lent=2560, answer=1)
+    plan([SEVEN], (0, BUDGET), answer=0, values=[UNWRITTEN])
+    plan([SEVEN], (2, 0), answer=0, values=[UNWRITTEN])
+    plan([], (0, BUDGET), answer=9)
+    plan([NINE], (0, BUDGET), answer=9)
+    plan([NINE], (2, 0), answer=9)
+    plan([NINE], (4096, MOST), answer=9)
+    plan([SEVEN], put=[(2561, [1])], lent=2562, answer=0)
+    plan([SEVEN], lent=3000, answer=0)
+    plan([SEVEN], put=[rest], lent=3000, answer=0)
+    plan([CUBE], (10, 15), put=[rest], lent=3000, answer=0, cost=3, values=[0, 1, 8], after=[1, 3, 0, 27, 37, 24, 6])
+    plan([SEVEN] * 127 + [[2, 16, 0] + [3] * 17], put=[rest], lent=3000, answer=0, cost=16)
+    plan([SEVEN], put=[(2560, [1]), rest], lent=3000, answer=9)
+    plan([NINE], (0, BUDGET), put=[rest], lent=3000, answer=9)
+
+    words = [1, 1, 1, 0, 5, 2] + [0] * 2994
+    table = [UNWRITTEN] * 4096
+    name = "#2560 1,1,0,5,2 t2 #2561 t2"
+    line(f"plan {name}", "\t".join([filled(words, 2560, table, 2, BUDGET, name, 1),
+                                   filled(words, 2561, table, 2, BUDGET, name, 0)]))
+
+
+def first_rows():
+    plan([[0]], answer=0)
+    plan([[0, 0, 0, -1]], answer=0)
+    for row in ([0, 1, 0, 7], [0, -1, 0, 7], [0, 0, 1, 7], [0, 0, -1, 7], [0, 0, 0, 7, 1], [0, 0, 0, 0, 1],
+                [0, 0, 0, 7] + [0] * 15 + [1]):
+        plan([row], answer=9)
+    for row in ([3], [4], [5], [6], [7, 0, 2], [8], [9], [-1]):
+        plan([row], answer=9)
+    for kind in (1, 2):
+        for row, answer in (
+                ([], 9), ([0, 0, 5], 9), ([1, 0, 5, 2], 0), ([1, 0, 5, 2, 1], 9), ([2, 0, 5, 2, 1], 0),
+                ([1, 1, 5, 2], 9), ([1, -1, 5, 2], 9), ([17, 0, 5, 2], 9), ([257, 0, 5, 2], 9),
+                ([2**32 + 1, 0, 5, 2], 9), ([-1, 0, 5, 2], 9), ([1, 0, 5, 2] + [0] * 14 + [1], 9),
+                ([14, 0] + [5] * 15 + [0, 1], 9), ([15, 0] + [5] * 16, 0), ([15, 0] + [5] * 16 + [1], 9),
+                ([16, 0] + [5] * 16, 0), ([16, 0] + [5] * 16 + [-1], 0), ([17, 0] + [5] * 17, 9)):
+            plan([[kind] + row], answer=answer, cost=0 if answer else row[0])
+
+
+def third_rows():
+    def third(row, answer, cost=None):
+        plan(PAIR_ROWS + [row], answer=answer, cost=cost)
+
+    for row, cost in (([0, 0, 0, 4], 0), ([1, 1, 0, 4, 5], 1), ([2, 1, 0, 4, 5], 1), ([3, 0, 1], 1), ([4, 0, 1], 1),
+                      ([5, 0, 1], 1), ([6, 1], 1), ([7, 1, 2], 1), ([8, 0, 1], 128)):
+        third(row, 0, cost + 1)
+    for row in ([9], [9, 0, 1], [10, 0, 1], [256, 0, 0, 4], [257, 1, 0, 4, 5], [2**32 + 3, 0, 1], [HALF + 3, 0, 1],
+                [-1], [-1, 0, 1]):
+        third(row, 9)
+    operators = [3, 0, 1], [4, 0, 1], [5, 0, 1], [6, 1, 0], [7, 1, 2], [8, 0, 1]
+    for row in operators:
+        third(row + [1], 9)
+    for row in operators:
+        third(row + [0] * 16 + [1], 9)
+
+    bad = (2, 3, -1, 2**32)
+    for kind in (3, 4, 5):
+        for a, b in ((0, 0), (1, 1), (1, 0)):
+            third([kind, a, b], 0, 2)
+        for word in bad:
+            third([kind, word, 0], 9)
+        for word in bad:
+            third([kind, 0, word], 9)
+    third([6], 0, 2)
+    for word in bad:
+        third([6, word], 9)
+    for row in ([6, 0, 1], [6, 1, 1], [6, 1, -1]):
+        third(row, 9)
+    third([7, 0, 2], 0, 2)
+    for word in bad:
+        third([7, word, 2], 9)
+    third([7, 1], 9)
+    third([7, 1, 1], 9)
+    for n in (3, 63, 64):
+        third([7, 1, n], 0, n)
+    for n in (65, 258, 2**32 + 2, -1):
+        third([7, 1, n], 9)
+    third([8], 0, 129)
+    third([8, 1, 0], 9)
+    third([8, 1, 1], 9)
+    for word in bad:
+        third([8, word, 1], 9)
+    for word in bad:
+        third([8, 0, word], 9)
+
+
+def raise_bases():
+    plan([[0], [8]], answer=9)
+    for base in (1, 2, 3, HALF, HALF + 1, -2, -1):
+        plan([[0, 0, 0, base], [8]], answer=0 if base % 2 else 9)
+    for row in ([1, 1, 0, 3, 2], [1, 1, 0, 3, 0], [2, 1, 0, 3, 5], [2, 1, 0, 3, 1]):
+        plan(PAIR_ROWS + [row, [8, 2]], answer=9)
+    for kind in (3, 4):
+        plan(PAIR_ROWS + [[0, 0, 0, 4], [kind, 0, 2], [8, 3]], answer=9)
+    for row in ([5, 0, 0], [6], [7, 0, 2], [8]):
+        plan(PAIR_ROWS + [row, [8, 2]], answer=9)
+    for row, answer in (([3, 126, 125], 0), ([3, 127, 0], 9), ([3, 128, 0], 9), ([3, 0, 126], 0), ([3, 0, 127], 9),
+                        ([3, 0, 128], 9), ([6, 126], 0), ([6, 127], 9), ([7, 126, 2], 0), ([7, 127, 2], 9),
+                        ([8, 126, 126], 0), ([8, 127, 0], 9), ([8, 128, 0], 9), ([8, 0, 127], 9)):
+        plan([[0, 0, 0, 3]] * 127 + [row], answer=answer)
+
+
+def grid_row(function):
+    """The sum chain of a function of the index."""
+    f = elements([function(i) for i in range(POINTS)])
+    return [1, len(f) - 1, 0] + f
+
+
+def points_of(room, function):
+    return [function(i) for i in range(room)]
+
+
+def document_fills():
+    """What formulas of document 01 fold to. The values are what the formulas mean."""
+    three_to_x = [2, 1, 0, 1, 3]
+    plan([CUBE], (10, 15), cost=3, values=[0, 1, 8, UNWRITTEN], after=[1, 3, 0, 27, 37, 24, 6])
+    plan([[1, 1, 0, 16, 6]], (4, BUDGET), cost=1, values=points_of(4, lambda i: 3 * (5 + 2 * i) + 1))
+    plan([SEVEN], (4, BUDGET), cost=0, values=[7] * 4)
+    plan([[0]], (4, BUDGET), cost=0, values=[0] * 4)
+    plan([[1, 1, 0, 0, HALF]], (4, BUDGET), cost=1, values=points_of(4, lambda i: HALF * i))
+    plan([[1, 2, 0, 0, -1, -2]], (4, BUDGET), cost=2, values=points_of(4, lambda i: -i**2))
+    plan([three_to_x], (4, BUDGET), cost=1, values=[1, 3, 9, 27])
+    plan([[0, 0, 0, 3], three_to_x, [8, 0, 1]], (4, BUDGET), cost=129, values=[3, 27, 19683, 7625597484987])
+    plan([X, [7, 0, 17]], (6, BUDGET), cost=17, values=points_of(6, lambda i: i**17))
+    plan([grid_row(lambda i: i**16)], (20, BUDGET), cost=16, values=points_of(20, lambda i: i**16))
+    plan([grid_row(lambda i: i**8), grid_row(lambda i: i**9), [5, 0, 1]], (6, BUDGET), cost=18,
+         values=points_of(6, lambda i: i**17))
+    plan([X, [7, 0, 64]], (5, BUDGET), cost=64, values=points_of(5, lambda i: i**64))
+    plan([X, [7, 0, 17], [6, 1]], (6, BUDGET), cost=18, values=points_of(6, lambda i: -i**17))
+    plan([X, three_to_x, [3, 0, 1]], (2, BUDGET), cost=3, values=[1, 4])
+    plan([[2, 2, 0, 1, 3, 9]], (6, BUDGET), cost=2, values=points_of(6, lambda i: 3**i**2))
+
+
+def budgets():
+    for budget in (0, 1, 3, 4, 5, 7, 8, 39, 40, 44, HALF, MOST):
+        plan([CUBE], (10, budget), cost=3)
+    for room, budget in ((0, 0), (0, MOST), (1, 3), (1, 4), (1, MOST), (4096, 16383), (4096, 16384), (4096, MOST)):
+        plan([CUBE], (room, budget), cost=3)
+    for room, budget in ((3, 0), (3, 1), (3, 2), (3, 3), (3, 4), (4096, 4095), (4096, MOST)):
+        plan([SEVEN], (room, budget), cost=0)
+    for budget in (129, 130, 259, 260):
+        plan([[0, 0, 0, 3], [2, 1, 0, 1, 3], [8, 0, 1]], (4, budget), cost=129)
+
+
+def filled_rows():
+    s, p, five = [1, 2, 0, 5, 2, 4], [2, 2, 0, 7, 3, 9], [0, 0, 0, 5]
+    six = 6, BUDGET
+    plan(PAIR_ROWS + [[2, 1, 0, 7, 3], [3, 1, 2], [4, 1, 2], [5, 3, 4], [6, 5], [7, 6, 3], [8, 0, 7]], six,
+         cost=0 + 1 + 1 + 1 + 1 + 1 + 1 + 2 + 128)
+    for row in ([3, 0, 1], [4, 0, 1], [4, 1, 0], [5, 0, 1]):
+        plan([s, p, row], six, cost=5)
+    plan([s, [6]], six, cost=3)
+    plan([p, [6]], six, cost=3)
+    plan([p, [7, 0, 2]], six, cost=3)
+    plan([p, [7, 0, 64]], six, cost=65)
+    plan([five, s, [8, 0, 1]], six, cost=130)
+    plan([five, p, [8, 0, 1]], six, cost=130)
+    plan([five, [8]], six, cost=128, values=[3125] * 6)
+    plan([[1, 4, 0, 5, 2, 4, 0, 0]], six, cost=4)
+    plan([[1, 2]], six, cost=2, values=[0] * 6)
+    plan([[2, 4, 0, 7, 3, 9, 1, 1]], six, cost=4)
+    plan([[2, 2, 0, 1, 1, 1]], six, cost=2, values=[1] * 6)
+    plan([[2, 2]], six, cost=2, values=[0] * 6)
+    plan([[2, 3, 0, 0, 3, 5, 7]], six, cost=3, values=[0] * 6)
+    plan([[2, 3, 0, 3, 5, 0, 7]], six, cost=3, values=[3, 15, 0, 0, 0, 0])
+    plan([[2, 2, 0, 3, 5, 0]], six, cost=2, values=[3, 15, 0, 0, 0, 0])
+    plan([[2, 3, 0, 2, 6, 10, 12]], six, cost=3)
+    plan([[2, 1, 0, 2, 4]], (40, BUDGET), cost=1, values=points_of(40, lambda i: 2 * 4**i))
+    plan([[1, 1, 0, 5, 2], [5, 0, 0], [3, 1, 1], [4, 2, 0]], six, cost=4,
+         values=points_of(6, lambda i: 2 * (5 + 2 * i)**2 - (5 + 2 * i)))
+    plan([s, p, [0, 0, 0, 3], [7, 1, 5], [1, 1, 0, 8, 1]], six, cost=2 + 2 + 0 + 4 + 1, values=[8, 9, 10, 11, 12, 13])
+    plan([s, p, [0, 0, 0, 3]], six, cost=4, values=[3] * 6)
+    plan(PAIR_ROWS + [[8, 0, 1], [6, 1]], (9, BUDGET), cost=130,
+         values=points_of(7, lambda i: -5 - 2 * i) + [UNWRITTEN] * 2)
+    plan([[1, 16, 0] + [0] * 16 + [1]], (20, BUDGET), cost=16, values=points_of(20, lambda i: comb(i, 16)))
+
+
+def wrapping_fills():
+    plan([[1, 1, 0, -1, 1]], (3, BUDGET), values=[-1, 0, 1])
+    plan([[1, 3, 0] + [-1] * 4], (6, BUDGET))
+    plan([[1, 2, 0] + [HALF] * 3], (6, BUDGET), values=[HALF, 0, 0, HALF])
+    plan([[2, 3, 0] + [-1] * 4], (6, BUDGET))
+    plan([[2, 1, 0, HALF, HALF]], (3, BUDGET), values=[HALF, 0, 0])
+    plan([[2, 1, 0, 2**32, 2**32]], (3, BUDGET), values=[2**32, 0, 0])
+    plan([[0, 0, 0, -1], X, [3, 0, 1]], (3, BUDGET), values=[-1, 0, 1])
+    plan([[0], X, [4, 0, 1]], (3, BUDGET), values=[0, -1, -2])
+    plan([[0, 0, 0, -1], X, [4, 1, 0]], (3, BUDGET), values=[1, 2, 3])
+    plan([[0, 0, 0, -1], [5, 0, 0]], values=[1, 1])
+    plan([[0, 0, 0, 2**32], [5, 0, 0]], values=[0, 0])
+    plan([[0, 0, 0, 2**32 - 1], [0, 0, 0, 2**32 + 1], [5, 0, 1]], values=[-1, -1])
+    plan([X, [6]], (3, BUDGET), values=[0, -1, -2])
+    plan([[0, 0, 0, HALF], [6]], values=[HALF] * 2)
+    plan([[0, 0, 0, 2], [7, 0, 63]], cost=62, values=[HALF] * 2)
+    plan([[0, 0, 0, 2], [7, 0, 64]], cost=63, values=[0] * 2)
+    plan([[0], [7, 0, 2]], cost=1, values=[0] * 2)
+    plan([[0, 0, 0, -1], [7, 0, 63]], values=[-1] * 2)
+    inverse = pow(3, -1, WORD)
+    plan([[0, 0, 0, 3], [1, 1, 0, -2, 1], [8, 0, 1]], (5, BUDGET), values=[inverse**2, inverse, 1, 3, 9])
+    plan([[0, 0, 0, 3], [1, 1, 0, HALF - 1, 1], [8, 0, 1]], (3, BUDGET), values=[inverse, 1, 3])
+    plan([[0, 0, 0, 3], [1, 1, 0, 2**62 - 1, 1], [8, 0, 1]], (3, BUDGET), values=[inverse, 1, 3])
+    plan([[0, 0, 0, 1], [1, 1, 0, -2, 1], [8, 0, 1]], (4, BUDGET), values=[1] * 4)
+    plan([[0, 0, 0, -1], [1, 1, 0, -2, 1], [8, 0, 1]], (4, BUDGET), values=[1, -1, 1, -1])
+    odd = [-1, -3, 5, 7, 9, -11, 13, 15, 17, 19, 21, -23, 25, 27, 29, 31, -33]
+    plan([[1, 16, 0] + odd], (20, BUDGET), cost=16)
+    plan([[2, 16, 0] + odd], (20, BUDGET), cost=16)
+
+
+def several_calls():
+    rows = PAIR_ROWS + [[2, 2, 0, 3, 5, 7], [8, 0, 1], [5, 3, 2], [4, 4, 1], [7, 5, 3], [6, 6], [3, 7, 2]]
+    cost = 0 + 1 + 2 + 128 + 1 + 1 + 2 + 1 + 1
+    assert cost + 1 == 138
+    plan(rows, (20, MOST), cost=cost)
+    plan(rows, (1, MOST), (7, MOST), (12, MOST), cost=cost)
+    plan(rows, (20, 5 * 138), (20, 137), (20, 15 * 138), cost=cost)
+    plan(rows, (0, MOST), (19, MOST), (20, 0), (1, MOST), cost=cost)
+    plan(rows, (4096, MOST), cost=cost)
+    plan(rows, (1000, MOST), (3000, MOST), (96, MOST), cost=cost)
+    plan([CUBE], (10, 15), (1, BUDGET), (6, BUDGET), cost=3,
+         after=[1, 3, 0] + elements([(i + 10)**3 for i in range(POINTS)]))
+
+
+def plans_of_128_rows():
+    three, x = [0, 0, 0, 3], [1, 1, 0, 5, 2]
+    for budget in (16256, 16257, 32513, 32514):
+        plan([three] + [[8, 0, "~1"]] * 127, (10, budget), cost=16256)
+    plan([three] + [[8, 0, "~1"]] * 127, (2, MOST), cost=16256)
+    plan([three] + [[8, 0, 0]] * 127, (10, 32514), cost=16256, values=[27, 27, UNWRITTEN])
+    plan(PAIR_ROWS + [[8, 0, "~1"]] * 126, (3, MOST), cost=126 * 128 + 1)
+    plan([x] + [[3, "~1", 0]] * 127, (4, BUDGET), cost=128, values=points_of(4, lambda i: 128 * (5 + 2 * i)))
+    plan([x] + [[4, "~1", 0]] * 127, (4, BUDGET), cost=128, values=points_of(4, lambda i: -126 * (5 + 2 * i)))
+    plan([x] + [[5, "~1", 0]] * 127, (4, BUDGET), cost=128, values=points_of(4, lambda i: (5 + 2 * i)**128))
+    plan([x] + [[6, "~1"]] * 127, (4, BUDGET), cost=128, values=points_of(4, lambda i: -5 - 2 * i))
+    plan([x] + [[7, "~1", 63]] * 127, (4, MOST), cost=127 * 62 + 1,
+         values=points_of(4, lambda i: pow(5 + 2 * i, 63**127, WORD)))
+    plan(PAIR_ROWS + [[3, "~1", "~2"]] * 126, (4, BUDGET), cost=127)
+    plan([[1, 16, 0] + list(range(1, 18))] * 128, (4, MOST), cost=2048)
+    plan([[2, 16, 0, 3, 5, 7, 9, 1, 2, 3, 5, 7, 9, 3, 5, 7, 9, 3, 5, 7]] * 128, (4, MOST), cost=2048)
+    plan([[1, 3, 0, 9, 8, 7, 6]] * 64 + [[2, 2, 0, 3, 5, 7]] * 64, (20, MOST), cost=64 * 3 + 64 * 2)
+
+
 if __name__ == "__main__":
     chains()
     sums()
@@ -835,3 +1299,14 @@ if __name__ == "__main__":
     size_first()
     smaller_number_first()
     lent_words()
+    row_counts()
+    lent_plans()
+    first_rows()
+    third_rows()
+    raise_bases()
+    document_fills()
+    budgets()
+    filled_rows()
+    wrapping_fills()
+    several_calls()
+    plans_of_128_rows()

@@ -3,8 +3,9 @@
 mod arrays;
 mod coefficients;
 
-// One shift of a lent chain, in place.
+// One shift of a lent chain, in place; and the 17 words of the constant 0.
 pub use arrays::shift_part;
+pub use arrays::zeros;
 pub use coefficients::from_coefficients;
 ghost use mathlib.Core.Path.{_≡_};
 ghost use Rattle.chain.specs.Chain.{trimmed};

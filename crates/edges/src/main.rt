@@ -3,13 +3,17 @@
 mod chains;
 mod coefficients;
 mod documents;
+mod entries;
+mod fills;
 mod formulas;
 mod notation;
+mod plans;
 mod postfix;
 mod print;
 mod probes;
 mod products;
 mod refusals;
+mod runs;
 mod sequences;
 mod sums;
 mod table;
@@ -25,4 +29,6 @@ fn main() {
     probes::run();
     formulas::run();
     refusals::run();
+    plans::run();
+    fills::run();
 }

@@ -4,29 +4,34 @@ use crate::text::Given;
 use libc::STDOUT_FILENO;
 ghost use Prim.Native.Nat.{_≤_};
 
-// Stands in every word of a tree before it is lent.
+// Stands in every word of a tree or a table before it is lent.
 pub const UNWRITTEN: u64 = 999;
 
-fn text(bytes: &[u8]) {
+pub fn text(bytes: &[u8]) {
     io::write_all(STDOUT_FILENO, bytes);
 }
 
-fn number(word: u64) {
+pub fn number(word: u64) {
     io::print_decimal(STDOUT_FILENO, word);
 }
 
-// The name with a tab, the refusal's number and its place, with a blank after each.
-fn head(name: &[u8], refusal: u64, place: u64) {
-    text(name);
-    text(b"\t");
+// A label, the refusal's number and its place, with a blank after each number.
+pub fn answer(label: &[u8], refusal: u64, place: u64) {
+    text(label);
     number(refusal);
     text(b" ");
     number(place);
     text(b" ");
 }
 
+// The name with a tab, and the refusal.
+fn head(name: &[u8], refusal: u64, place: u64) {
+    text(name);
+    answer(b"\t", refusal, place);
+}
+
 // Element i, after a comma where it is not the first; nothing past the length.
-fn element(word: u64, i: usize, length: usize) {
+pub fn element(word: u64, i: usize, length: usize) {
     if length < i {
         return;
     }
@@ -129,7 +134,7 @@ pub fn probe(name: &[u8], answer: probe::ProbeAnswer) {
 }
 
 // The word at a place, or 0 past the end.
-fn word_at(words: &[u64], at: usize) -> u64 {
+pub fn word_at(words: &[u64], at: usize) -> u64 {
     if at < words.len() {
         return words[at];
     }
@@ -137,7 +142,7 @@ fn word_at(words: &[u64], at: usize) -> u64 {
 }
 
 // Whether the words from `at` up to an end are all the same.
-fn is_all(words: &[u64], at: usize, end: usize, word: u64) -> bool {
+pub fn is_all(words: &[u64], at: usize, end: usize, word: u64) -> bool {
     let mut i = at;
     while i < end {
         if word_at(words, i) != word {
@@ -148,11 +153,11 @@ fn is_all(words: &[u64], at: usize, end: usize, word: u64) -> bool {
     true
 }
 
-// The nodes that a tree counts; 128 where it counts more.
-fn counted(tree: &[u64]) -> usize
+// The nodes that a tree counts, or the rows of a plan; 128 where it counts more.
+pub fn counted(words: &[u64]) -> usize
     ensures { λ r. ⌜ r ≤ 128 ⌝ }
 {
-    let count = word_at(tree, 0);
+    let count = word_at(words, 0);
     if 128 < count {
         return 128;
     }

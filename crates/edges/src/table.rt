@@ -1,19 +1,22 @@
 // Tables of cases: a line each, a name and a body with a bar between them.
-// The kind of a table says what its bodies are: postfix text, three words for the probe, or how many words a formula is lent.
+// The kind of a table says what its bodies are: postfix text, three words for the probe, or how many words a formula is lent. A line of
+// plans has no bar.
 use crate::notation;
 use crate::postfix;
 use crate::print;
+use crate::runs;
 use crate::text;
 ghost use Prim.Native.Nat.{_≤_};
 
-// A chain's answer, a chain's present value, its first 20 values; a reading, what was expected and a tolerance; or a formula, whose name
-// is its text.
+// A chain's answer, a chain's present value, its first 20 values; a reading, what was expected and a tolerance; a formula, whose name
+// is its text; or a plan and its fillings.
 pub enum Kind {
     Chain,
     Value,
     Sequence,
     Probe,
     Formula,
+    Plan,
 }
 
 pub fn each(kind: Kind, table: &[u8]) {
@@ -38,6 +41,7 @@ fn case(kind: Kind, line: &[u8]) {
         Kind::Sequence => sequence_case(name, body),
         Kind::Probe => probe_case(name, body),
         Kind::Formula => formula_case(name, body),
+        Kind::Plan => plan_case(line),
     }
 }
 
@@ -91,4 +95,11 @@ fn read_case(name: &[u8], body: &[u8], bytes: &mut [u8], tree: &mut [u64]) {
     let count = lent(body, tree.len());
     let answer = formula::read(text::part(bytes, 0, length), &mut tree[0..count]);
     print::reading(name, body, answer, tree);
+}
+
+fn plan_case(line: &[u8]) {
+    let mut bytes = [0u8; 7000];
+    let mut plan = [0u64; 3000];
+    let mut table = [print::UNWRITTEN; 4096];
+    runs::run(line, &mut bytes, &mut plan, &mut table);
 }

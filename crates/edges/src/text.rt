@@ -3,7 +3,7 @@
 ghost use Prim.Native.Nat.{_≤_, _<_};
 ghost use lib.ListN.{length};
 
-// Stands in every word past the listed ones; no call may read it.
+// Stands in every word past the listed ones: no call on chains may read it, and a filling takes it for its budget.
 const UNREAD: u64 = 999;
 
 // A chain as a caller gives it. The length is one less than the words listed, so over 16 from 18 words on.
