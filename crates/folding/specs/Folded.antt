@@ -1,0 +1,98 @@
+-- A folded tree: a constant, a trimmed chain, or an operator that stays a row of the plan. Its rules are in Folding.antt.
+use mathlib.Core.Bool.{Bool, true, false}
+use mathlib.Core.List.{List, [], _∷_}
+use Prim.Native.Nat.{ℕ, zero, suc, _+_, _-_, _%_, _^_}
+use lib.Dec.{eqb}
+use lib.ListN.{length}
+use Rattle.word.specs.Word as Word
+use Rattle.chain.specs.Chain as Chain
+use Rattle.chain.specs.SumChain.{sumAt}
+use Rattle.chain.specs.ProductChain.{productAt}
+use Rattle.chain.specs.ProductChain as ProductChain
+
+pub data Folded : Type 0 where
+  constant : ℕ → Folded
+  sumChain : (elements : List ℕ) → Folded
+  productChain : (elements : List ℕ) → Folded
+  sumRow : Folded → Folded → Folded
+  differenceRow : Folded → Folded → Folded
+  productRow : Folded → Folded → Folded
+  minusRow : Folded → Folded
+  powerRow : Folded → (n : ℕ) → Folded
+  raiseRow : Folded → Folded → Folded
+
+-- ---- "With C constant, S sum chain, P product chain"
+abbrev pub isConstant : Folded → Bool
+isConstant (constant c) = true
+isConstant (sumChain f) = false
+isConstant (productChain f) = false
+isConstant (sumRow a b) = false
+isConstant (differenceRow a b) = false
+isConstant (productRow a b) = false
+isConstant (minusRow a) = false
+isConstant (powerRow a n) = false
+isConstant (raiseRow a b) = false
+
+abbrev pub isSumChain : Folded → Bool
+isSumChain (constant c) = false
+isSumChain (sumChain f) = true
+isSumChain (productChain f) = false
+isSumChain (sumRow a b) = false
+isSumChain (differenceRow a b) = false
+isSumChain (productRow a b) = false
+isSumChain (minusRow a) = false
+isSumChain (powerRow a n) = false
+isSumChain (raiseRow a b) = false
+
+abbrev pub isProductChain : Folded → Bool
+isProductChain (constant c) = false
+isProductChain (sumChain f) = false
+isProductChain (productChain f) = true
+isProductChain (sumRow a b) = false
+isProductChain (differenceRow a b) = false
+isProductChain (productRow a b) = false
+isProductChain (minusRow a) = false
+isProductChain (powerRow a n) = false
+isProductChain (raiseRow a b) = false
+
+-- The elements f0..fk of a chain; a constant has f0 alone, and an operator none.
+abbrev pub elements : Folded → List ℕ
+elements (constant c) = c ∷ []
+elements (sumChain f) = f
+elements (productChain f) = f
+elements (sumRow a b) = []
+elements (differenceRow a b) = []
+elements (productRow a b) = []
+elements (minusRow a) = []
+elements (powerRow a n) = []
+elements (raiseRow a b) = []
+
+-- ---- "a sum chain drops trailing zeros, a product chain trailing ones; at length 0 it is a constant. A product chain with f0 = 0 is
+-- the constant 0."
+abbrev pub ofSum : List ℕ → Folded
+ofSum [] = constant 0
+ofSum (a ∷ []) = constant a
+ofSum (a ∷ b ∷ f) = sumChain (a ∷ b ∷ f)
+
+abbrev pub ofProduct : List ℕ → Folded
+ofProduct [] = constant 1
+ofProduct (a ∷ []) = constant a
+ofProduct (a ∷ b ∷ f) = productChain (a ∷ b ∷ f)
+
+abbrev pub trimmedSum : List ℕ → Folded
+trimmedSum f = ofSum (Chain.trimmed 0 f)
+
+abbrev pub trimmedProduct : List ℕ → Folded
+trimmedProduct f = ofProduct (ProductChain.trimmedProduct f)
+
+-- ---- the value of a folded tree at index i: its chains after i shifts, its operators worked out on words
+unfoldable pub valueAt : ℕ → Folded → ℕ → ℕ
+valueAt w (constant c) i = Word.word w c
+valueAt w (sumChain f) i = Word.word w (sumAt f i)
+valueAt w (productChain f) i = Word.word w (productAt f i)
+valueAt w (sumRow a b) i = Word.sum w (valueAt w a i) (valueAt w b i)
+valueAt w (differenceRow a b) i = Word.difference w (valueAt w a i) (valueAt w b i)
+valueAt w (productRow a b) i = Word.product w (valueAt w a i) (valueAt w b i)
+valueAt w (minusRow a) i = Word.negation w (valueAt w a i)
+valueAt w (powerRow a n) i = Word.power w (valueAt w a i) n
+valueAt w (raiseRow a b) i = Word.power w (valueAt w a i) (valueAt w b i)
