@@ -1,0 +1,136 @@
+-- The plan is put together: the number of rows in front, the rows, and zeros behind them. And what reading into the last words of a plan leaves.
+use mathlib.Core.Path.{_≡_, refl, sym, ap, ap₂, subst, _∙_}
+use mathlib.Core.List.{List, [], _∷_, _++_, append-nil}
+use Prim.Native.Nat.{ℕ, suc, _+_, _-_, _*_, _≤_, _<_}
+use native.Mathlib.Omega.{arith}
+use lib.ListN.{length, take, drop, set, replicate, length-append, length-drop, take-append-drop}
+use lib.Seq.{take-at, drop-at, drop-length, length-take-le}
+use Rattle.plan.proofs.RowLaws.{part, partPut, part-put}
+use Rattle.formula.specs.Tree.{Tree}
+use Rattle.formula.specs.Words.{treeWords}
+use Rattle.formula.specs.Refusals as Refusals
+use Rattle.formula.specs.Refusals.{Fault, Accepted, Reading}
+use Rattle.formula.specs.declared.ReadAnswer.{ReadAnswer}
+use Rattle.formula.proofs.Answers.{accepted-fits}
+use Rattle.formula.proofs.Written.{length-tree-words}
+use Rattle.folding.specs.Folded.{Folded}
+use Rattle.folding.specs.Folding.{fold}
+use Rattle.folding.specs.Layout.{rowCount, rowsFrom, wordsOf, planWords}
+use Rattle.folding.proofs.FoldShape.{accepted-foldable, foldable-part, fold-formed}
+use Rattle.folding.proofs.ReadBack.{length-plan}
+use Rattle.compile.specs.Compiling.{Compiling, refused, accepted}
+use Rattle.compile.specs.Machine.{Compilable, Written, FoldedAt}
+use Rattle.compile.proofs.Finishing.{part-part}
+
+-- ---- parts of a plan that is long enough
+length-part : (i n : ℕ) (l : List ℕ) → i ≤ n → n ≤ length l → length (part i n l) ≡ n - i
+length-part i n l h long = length-take-le (n - i) (drop i l) (rw (length-drop i l) (omega arith))
+
+-- ---- the whole plan
+pub assembled : (start step : ℕ) (p q : List ℕ) (t : Tree) (rows : ℕ) → 2561 ≤ length p → length q ≡ length p → FoldedAt start step p t q rows
+    → {cleared : List ℕ} → cleared ≡ replicate (length (part (1 + 20 * rows) 2561 (set q 0 rows))) 0
+    → partPut (1 + 20 * rows) 2561 (set q 0 rows) cleared ≡ planWords (fold 64 start step t) ++ drop 2561 p
+assembled start step p [] t rows long same folded e = absurd (omega arith)
+assembled start step p (a ∷ q) t rows long same folded {cleared} e =
+    part-put (1 + 20 * rows) 2561 (rows ∷ q) cleared (omega (arith, folded .few))
+    ∙ ap₂ _++_ (ap₂ _++_ front (e ∙ ap (λ n. replicate n 0) count)) (folded .behind)
+  where
+    front : take (1 + 20 * rows) (rows ∷ q) ≡ rowCount (fold 64 start step t) ∷ wordsOf (rowsFrom 0 (fold 64 start step t))
+    front = ap (λ n. take n (rows ∷ q)) next ∙ ap₂ {C = List ℕ} _∷_ (folded .rows) (folded .stands)
+      where
+        next : 1 + 20 * rows ≡ suc (20 * rows)
+        next = omega arith
+
+    count : length (part (1 + 20 * rows) 2561 (rows ∷ q)) ≡ 2560 - 20 * rowCount (fold 64 start step t)
+    count =
+        length-part (1 + 20 * rows) 2561 (rows ∷ q) (omega (arith, folded .few)) (omega arith)
+        ∙ omega (arith, folded .rows)
+
+-- ---- an accepted tree folds
+pub accepted-compilable : {s : List ℕ} {t : Tree} (start step : ℕ) → Accepted 64 s t → Compilable start step t
+accepted-compilable start step good = record {
+  formed = λ u k. fold-formed 64 start step (omega arith) u (foldable-part (λ a h. part-part h k) (accepted-foldable good));
+  numbers = accepted-fits good .0;
+  exponents = accepted-fits good .1;
+  few = accepted-fits good .2;
+}
+
+-- ---- reading into the last 257 words of the plan
+-- No refusal has the number 0.
+fault-some : {w : ℕ} {s : List ℕ} {n p : ℕ} → Fault w s n p → 0 < n
+fault-some (Refusals.too-long h) = omega arith
+fault-some (Refusals.too-deep h) = omega arith
+fault-some (Refusals.not-grammar h) = omega arith
+fault-some (Refusals.number-over f h k) = omega arith
+fault-some (Refusals.exponent-number-over f h k) = omega arith
+fault-some (Refusals.exponent-over f h k) = omega arith
+fault-some (Refusals.too-many f h) = omega arith
+fault-some (Refusals.x-in-base f h k) = omega arith
+fault-some (Refusals.even-base f h k) = omega arith
+
+-- A part that is put back as it was leaves the plan as it was.
+part-back : (i n : ℕ) (l : List ℕ) → partPut i n l (part i n l) ≡ l
+part-back i n l = ap (λ f. take i l ++ f) (take-append-drop (n - i) (drop i l)) ∙ take-append-drop i l
+
+-- 257 new words take the place of the last 257 of the plan.
+module _ (p : List ℕ) (long : 2561 ≤ length p) (new : List ℕ) (count : length new ≡ 257) where
+  put-there : take 257 (drop 2304 (partPut 2304 2561 p new)) ≡ new
+  put-there =
+      ap (take 257) (drop-at (take 2304 p) (new ++ drop 257 (drop 2304 p)) 2304 (length-take-le 2304 p (omega arith)))
+      ∙ take-at new (drop 257 (drop 2304 p)) 257 count
+
+  whole : partPut 2304 2561 p new ≡ take 2304 p ++ new ++ drop 2561 p
+  whole = part-put 2304 2561 p new (omega arith)
+
+  before : length (take 2304 p ++ new) ≡ 2561
+  before = length-append (take 2304 p) new ∙ omega (arith, length-take-le 2304 p (omega arith))
+
+  put-behind : drop 2561 (partPut 2304 2561 p new) ≡ drop 2561 p
+  put-behind = ap (drop 2561) whole ∙ drop-at (take 2304 p ++ new) (drop 2561 p) 2561 before
+
+  put-length : length (partPut 2304 2561 p new) ≡ length p
+  put-length = ap length whole ∙ length-append (take 2304 p ++ new) (drop 2561 p) ∙ omega (arith, before, length-drop 2561 p)
+
+module _ (s p : List ℕ) (long : 2561 ≤ length p) where
+  -- A refusal alters nothing.
+  pub read-refused : {lent : List ℕ} {r : ReadAnswer} (start step : ℕ) → Reading 64 s (part 2304 2561 p) r lent → (r .number ≡ 0 → ⊥)
+      → Compiling 64 s start step p (record { number = r .number; place = r .place }) (partPut 2304 2561 p lent)
+  read-refused start step (Refusals.too-short h) some = absurd (omega (arith, length-part 2304 2561 p (omega arith) long))
+  read-refused start step (Refusals.refused h R) some = subst (Compiling 64 s start step p _) (sym (part-back 2304 2561 p)) (refused long R)
+  read-refused start step (Refusals.accepted h A) some = absurd (some refl)
+
+  -- The tree of an accepted text stands in these words.
+  pub read-accepted : {lent : List ℕ} {r : ReadAnswer} → Reading 64 s (part 2304 2561 p) r lent → r .number ≡ 0
+      → (t : Tree) × Accepted 64 s t × Written (partPut 2304 2561 p lent) t
+      × (drop 2561 (partPut 2304 2561 p lent) ≡ drop 2561 p) × (length (partPut 2304 2561 p lent) ≡ length p)
+  read-accepted (Refusals.too-short h) none = absurd (omega (arith, length-part 2304 2561 p (omega arith) long))
+  read-accepted (Refusals.refused h R) none = absurd (omega (arith, none, fault-some (R .applies)))
+  read-accepted (Refusals.accepted {t} h A) none = (t, A, put-there p long new count ∙ only, put-behind p long new count, put-length p long new count)
+    where
+      new : List ℕ
+      new = treeWords t ++ drop 257 (part 2304 2561 p)
+
+      none-behind : drop 257 (part 2304 2561 p) ≡ []
+      none-behind = ap (λ n. drop n (part 2304 2561 p)) (sym (length-part 2304 2561 p (omega arith) long)) ∙ drop-length (part 2304 2561 p)
+
+      only : new ≡ treeWords t
+      only = ap (λ l. treeWords t ++ l) none-behind ∙ append-nil (treeWords t)
+
+      count : length new ≡ 257
+      count = ap length only ∙ length-tree-words t (accepted-fits A .2)
+
+  -- What is folded from that tree is the plan of the text.
+  pub read-compiled : {lent q : List ℕ} {r : ReadAnswer} (start step : ℕ) → Reading 64 s (part 2304 2561 p) r lent → r .number ≡ 0
+      → ((t : Tree) → Compilable start step t → Written (partPut 2304 2561 p lent) t
+      → q ≡ planWords (fold 64 start step t) ++ drop 2561 (partPut 2304 2561 p lent))
+      → Compiling 64 s start step p (record { number = 0; place = 0 }) q
+  read-compiled start step reading none folded =
+      let (t, A, written, behind, _) = read-accepted reading none in
+      subst (Compiling 64 s start step p _)
+      (sym (folded t (accepted-compilable start step A) written ∙ ap (λ l. planWords (fold 64 start step t) ++ l) behind))
+      (accepted long A)
+
+-- The plan stays as long as it is.
+pub whole-length : (a : Folded) (p : List ℕ) → rowCount a ≤ 128 → 2561 ≤ length p → length (planWords a ++ drop 2561 p) ≡ length p
+whole-length a p few long =
+    length-append (planWords a) (drop 2561 p) ∙ ap₂ _+_ (length-plan a few) (length-drop 2561 p) ∙ omega arith

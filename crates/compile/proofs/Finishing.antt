@@ -1,0 +1,171 @@
+-- The node words of a tree finish it; what the next node does with the trees that are finished, and how many nodes are left.
+use mathlib.Core.Path.{_≡_, refl, sym, subst}
+use mathlib.Core.Bool.{cond}
+use mathlib.Core.List.{List, [], _∷_, _++_, append-nil, append-assoc}
+use Prim.Native.Nat.{ℕ, _+_, _*_, _<_}
+use native.Mathlib.Omega.{arith}
+use lib.Dec.{eqb}
+use lib.ListN.{length}
+use Rattle.formula.specs.Tree as Tree
+use Rattle.formula.specs.Tree.{Tree, nodes}
+use Rattle.formula.specs.Words.{nodeWords}
+use Rattle.formula.specs.Refusals.{Part, itself, sum-left, sum-right, difference-left, difference-right, product-left, product-right, under-minus, under-power, in-base, in-exponent}
+use Rattle.folding.specs.Folding.{fold}
+use Rattle.folding.specs.Shape.{WellFormed}
+use Rattle.folding.proofs.FoldShape.{Foldable, foldable-part, fold-formed}
+use Rattle.compile.specs.Machine.{Finishes, finished, number, variable, sum, difference, product, minus, power, raise}
+
+-- ---- the words of a whole tree
+-- After the node words of u, the tree u is finished.
+pub finishes-tree : {t : Tree} {done : List Tree} {words : List ℕ} (u : Tree) → Finishes t (u ∷ done) words → Finishes t done (nodeWords u ++ words)
+unfolding nodeWords
+finishes-tree (Tree.number place v) h = number place v h
+finishes-tree Tree.variable h = variable h
+finishes-tree (Tree.sum a b) h = rw (append-assoc, append-assoc) (finishes-tree a (finishes-tree b (sum h)))
+finishes-tree (Tree.difference a b) h = rw (append-assoc, append-assoc) (finishes-tree a (finishes-tree b (difference h)))
+finishes-tree (Tree.product a b) h = rw (append-assoc, append-assoc) (finishes-tree a (finishes-tree b (product h)))
+finishes-tree (Tree.minus a) h = rw append-assoc (finishes-tree a (minus h))
+finishes-tree (Tree.literalPower a place n) h = rw append-assoc (finishes-tree a (power place n h))
+finishes-tree (Tree.raise a place b) h = rw (append-assoc, append-assoc) (finishes-tree a (finishes-tree b (raise place h)))
+
+pub finishes-all : (t : Tree) → Finishes t [] (nodeWords t)
+finishes-all t = rw (sym (append-nil (nodeWords t))) (finishes-tree t finished)
+
+-- ---- finished trees are parts of the tree
+pub part-part : {u a t : Tree} → Part u a → Part a t → Part u t
+part-part h itself = h
+part-part h (sum-left k) = sum-left (part-part h k)
+part-part h (sum-right k) = sum-right (part-part h k)
+part-part h (difference-left k) = difference-left (part-part h k)
+part-part h (difference-right k) = difference-right (part-part h k)
+part-part h (product-left k) = product-left (part-part h k)
+part-part h (product-right k) = product-right (part-part h k)
+part-part h (under-minus k) = under-minus (part-part h k)
+part-part h (under-power k) = under-power (part-part h k)
+part-part h (in-base k) = in-base (part-part h k)
+part-part h (in-exponent k) = in-exponent (part-part h k)
+
+unfoldable pub AllParts : Tree → List Tree → Type 0
+AllParts t [] = Unit {0}
+AllParts t (u ∷ done) = Part u t × AllParts t done
+
+pub finishes-part : {t : Tree} {done : List Tree} {words : List ℕ} → Finishes t done words → AllParts t done
+unfolding AllParts
+finishes-part finished = (itself, tt)
+finishes-part (number place v h) = finishes-part h .1
+finishes-part (variable h) = finishes-part h .1
+finishes-part (sum h) = let k = finishes-part h in (part-part (sum-right itself) (k .0), (part-part (sum-left itself) (k .0), k .1))
+finishes-part (difference h) =
+    let k = finishes-part h in
+    (part-part (difference-right itself) (k .0), (part-part (difference-left itself) (k .0), k .1))
+finishes-part (product h) = let k = finishes-part h in (part-part (product-right itself) (k .0), (part-part (product-left itself) (k .0), k .1))
+finishes-part (minus h) = let k = finishes-part h in (part-part (under-minus itself) (k .0), k .1)
+finishes-part (power place n h) = let k = finishes-part h in (part-part (under-power itself) (k .0), k .1)
+finishes-part (raise place h) = let k = finishes-part h in (part-part (in-exponent itself) (k .0), (part-part (in-base itself) (k .0), k .1))
+
+pub top-part : {t u : Tree} {done : List Tree} {words : List ℕ} → Finishes t (u ∷ done) words → Part u t
+unfolding AllParts
+top-part h = finishes-part h .0
+
+pub top-formed : {t u : Tree} {done : List Tree} {words : List ℕ} (start step : ℕ) → Foldable 64 t → Finishes t (u ∷ done) words
+    → WellFormed 64 (fold 64 start step u)
+top-formed {u = u} start step good h = fold-formed 64 start step (omega arith) u (foldable-part (λ a k. part-part k (top-part h)) good)
+
+-- ---- the next node
+-- What a node of two operands does.
+abbrev TakesTwo : Tree → (Tree → Tree → Tree) → List Tree → List ℕ → Type 0
+TakesTwo t operator done words = (a : Tree) × (b : Tree) × (rest : List Tree) × (done ≡ b ∷ a ∷ rest) × Finishes t (operator a b ∷ rest) words
+
+-- What the node of kind k with the word v does.
+unfoldable Turn : Tree → List Tree → List ℕ → ℕ → ℕ → Type 0
+Turn t done words v k =
+    cond (eqb k 0) ((place : ℕ) × Finishes t (Tree.number place v ∷ done) words)
+    (cond (eqb k 1) (Finishes t (Tree.variable ∷ done) words)
+    (cond (eqb k 3) (TakesTwo t Tree.sum done words)
+    (cond (eqb k 4) (TakesTwo t Tree.difference done words)
+    (cond (eqb k 5) (TakesTwo t Tree.product done words)
+    (cond (eqb k 6) ((a : Tree) × (rest : List Tree) × (done ≡ a ∷ rest) × Finishes t (Tree.minus a ∷ rest) words)
+    (cond (eqb k 7) ((place : ℕ) × (a : Tree) × (rest : List Tree) × (done ≡ a ∷ rest) × Finishes t (Tree.literalPower a place v ∷ rest) words)
+    (cond (eqb k 8)
+    ((place : ℕ) × (a : Tree) × (b : Tree) × (rest : List Tree) × (done ≡ b ∷ a ∷ rest) × Finishes t (Tree.raise a place b ∷ rest) words)
+    ⊥)))))))
+
+turn : {t : Tree} {done : List Tree} {words : List ℕ} {k v : ℕ} → Finishes t done (k ∷ v ∷ words) → Turn t done words v k
+unfolding Turn
+turn (number place v h) = (place, h)
+turn (variable h) = h
+turn (sum h) = (_, _, _, refl, h)
+turn (difference h) = (_, _, _, refl, h)
+turn (product h) = (_, _, _, refl, h)
+turn (minus h) = (_, _, refl, h)
+turn (power place n h) = (place, _, _, refl, h)
+turn (raise place h) = (place, _, _, _, refl, h)
+
+module _ {t : Tree} {done : List Tree} {words : List ℕ} {k v : ℕ} (h : Finishes t done (k ∷ v ∷ words)) where
+  pub view-number : k ≡ 0 → (place : ℕ) × Finishes t (Tree.number place v ∷ done) words
+  unfolding Turn
+  view-number e = subst (Turn t done words v) e (turn h)
+
+  pub view-variable : k ≡ 1 → Finishes t (Tree.variable ∷ done) words
+  unfolding Turn
+  view-variable e = subst (Turn t done words v) e (turn h)
+
+  pub view-sum : k ≡ 3 → (a : Tree) × (b : Tree) × (rest : List Tree) × (done ≡ b ∷ a ∷ rest) × Finishes t (Tree.sum a b ∷ rest) words
+  unfolding Turn
+  view-sum e = subst (Turn t done words v) e (turn h)
+
+  pub view-difference : k ≡ 4
+      → (a : Tree) × (b : Tree) × (rest : List Tree) × (done ≡ b ∷ a ∷ rest) × Finishes t (Tree.difference a b ∷ rest) words
+  unfolding Turn
+  view-difference e = subst (Turn t done words v) e (turn h)
+
+  pub view-product : k ≡ 5
+      → (a : Tree) × (b : Tree) × (rest : List Tree) × (done ≡ b ∷ a ∷ rest) × Finishes t (Tree.product a b ∷ rest) words
+  unfolding Turn
+  view-product e = subst (Turn t done words v) e (turn h)
+
+  pub view-minus : k ≡ 6 → (a : Tree) × (rest : List Tree) × (done ≡ a ∷ rest) × Finishes t (Tree.minus a ∷ rest) words
+  unfolding Turn
+  view-minus e = subst (Turn t done words v) e (turn h)
+
+  pub view-power : k ≡ 7
+      → (place : ℕ) × (a : Tree) × (rest : List Tree) × (done ≡ a ∷ rest) × Finishes t (Tree.literalPower a place v ∷ rest) words
+  unfolding Turn
+  view-power e = subst (Turn t done words v) e (turn h)
+
+  pub view-raise : k ≡ 8
+      → (place : ℕ) × (a : Tree) × (b : Tree) × (rest : List Tree) × (done ≡ b ∷ a ∷ rest) × Finishes t (Tree.raise a place b ∷ rest) words
+  unfolding Turn
+  view-raise e = subst (Turn t done words v) e (turn h)
+
+pub node-kind : {t : Tree} {done : List Tree} {words : List ℕ} {k v : ℕ} → Finishes t done (k ∷ v ∷ words) → (k < 9) × (k ≡ 2 → ⊥)
+node-kind (number place v h) = (omega arith, λ e. omega (arith, e))
+node-kind (variable h) = (omega arith, λ e. omega (arith, e))
+node-kind (sum h) = (omega arith, λ e. omega (arith, e))
+node-kind (difference h) = (omega arith, λ e. omega (arith, e))
+node-kind (product h) = (omega arith, λ e. omega (arith, e))
+node-kind (minus h) = (omega arith, λ e. omega (arith, e))
+node-kind (power place n h) = (omega arith, λ e. omega (arith, e))
+node-kind (raise place h) = (omega arith, λ e. omega (arith, e))
+
+-- ---- how many nodes are left
+unfoldable pub sumNodes : List Tree → ℕ
+sumNodes [] = 0
+sumNodes (u ∷ done) = nodes u + sumNodes done
+
+-- Two words for each node that is not yet read.
+pub nodes-left : {t : Tree} {done : List Tree} {words : List ℕ} → Finishes t done words → 2 * sumNodes done + length words ≡ 2 * nodes t
+unfolding sumNodes nodes
+nodes-left finished = omega arith
+nodes-left (number place v h) = omega (arith, nodes-left h)
+nodes-left (variable h) = omega (arith, nodes-left h)
+nodes-left (sum h) = omega (arith, nodes-left h)
+nodes-left (difference h) = omega (arith, nodes-left h)
+nodes-left (product h) = omega (arith, nodes-left h)
+nodes-left (minus h) = omega (arith, nodes-left h)
+nodes-left (power place n h) = omega (arith, nodes-left h)
+nodes-left (raise place h) = omega (arith, nodes-left h)
+
+-- When no words are left, the tree is the one that stands.
+pub none-left : {t : Tree} {done : List Tree} → Finishes t done [] → done ≡ t ∷ []
+none-left finished = refl

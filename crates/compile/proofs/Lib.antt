@@ -1,0 +1,8 @@
+-- Laws of compiling.
+pub mod Finishing
+pub mod Stacking
+pub mod Promise
+pub mod Pairs
+pub mod Nodes
+pub mod Turns
+pub mod Assembled

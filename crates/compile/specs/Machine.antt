@@ -1,0 +1,84 @@
+-- A tree's nodes folded one after the other: trees that are finished stand folded in the plan, one behind the other, the last on top.
+use mathlib.Core.Path.{_≡_}
+use mathlib.Core.Bool.{cond}
+use mathlib.Core.List.{List, [], _∷_}
+use Prim.Native.Nat.{ℕ, suc, _+_, _*_, _^_, _≤_, _<_}
+use lib.Dec.{eqb}
+use lib.ListN.{getD, take, drop}
+use Rattle.formula.specs.Tree as Tree
+use Rattle.formula.specs.Tree.{Tree, nodes}
+use Rattle.formula.specs.Refusals.{Part}
+use Rattle.formula.specs.Words.{treeWords}
+use Rattle.folding.specs.Folded.{Folded}
+use Rattle.folding.specs.Folding.{fold, foldSum, foldDifference, foldProduct, foldRaise}
+use Rattle.folding.specs.Layout.{rowCount, rowsFrom, wordsOf}
+use Rattle.folding.specs.Shape.{WellFormed}
+use Rattle.rows.specs.Standing.{rowStart}
+use Rattle.operators.specs.Operands.{Operand}
+
+-- `Finishes done words t`: with the trees `done` finished, the last one first, the node words left make the tree t. "two words a node in postfix
+-- order, left operand first": kind and word.
+pub data Finishes (t : Tree) : List Tree → List ℕ → Type 0 where
+  finished : Finishes t (t ∷ []) []
+  number : {done : List Tree} {words : List ℕ} (place v : ℕ) → Finishes t (Tree.number place v ∷ done) words → Finishes t done (0 ∷ v ∷ words)
+  variable : {done : List Tree} {words : List ℕ} → Finishes t (Tree.variable ∷ done) words → Finishes t done (1 ∷ 0 ∷ words)
+  sum : {a b : Tree} {done : List Tree} {words : List ℕ} → Finishes t (Tree.sum a b ∷ done) words → Finishes t (b ∷ a ∷ done) (3 ∷ 0 ∷ words)
+  difference : {a b : Tree} {done : List Tree} {words : List ℕ}
+      → Finishes t (Tree.difference a b ∷ done) words → Finishes t (b ∷ a ∷ done) (4 ∷ 0 ∷ words)
+  product : {a b : Tree} {done : List Tree} {words : List ℕ}
+      → Finishes t (Tree.product a b ∷ done) words → Finishes t (b ∷ a ∷ done) (5 ∷ 0 ∷ words)
+  minus : {a : Tree} {done : List Tree} {words : List ℕ} → Finishes t (Tree.minus a ∷ done) words → Finishes t (a ∷ done) (6 ∷ 0 ∷ words)
+  power : {a : Tree} {done : List Tree} {words : List ℕ} (place n : ℕ)
+      → Finishes t (Tree.literalPower a place n ∷ done) words → Finishes t (a ∷ done) (7 ∷ n ∷ words)
+  raise : {a b : Tree} {done : List Tree} {words : List ℕ} (place : ℕ)
+      → Finishes t (Tree.raise a place b ∷ done) words → Finishes t (b ∷ a ∷ done) (8 ∷ 0 ∷ words)
+
+-- The finished trees stand folded in the plan p up to row `end`; `starts` has the first row of each, `depth` of them.
+unfoldable pub Stack : ℕ → ℕ → List ℕ → List ℕ → List Tree → ℕ → ℕ → Type 0
+Stack start step p starts [] depth end = (depth ≡ 0) × (end ≡ 0)
+Stack start step p starts (a ∷ done) depth end =
+    (below : ℕ) × (depth ≡ suc below) × Operand p (getD starts below 0) end (fold 64 start step a)
+    × Stack start step p starts done below (getD starts below 0)
+
+-- ---- the operators of two operands, by the kind of a node
+abbrev pub foldBoth : ℕ → Folded → Folded → Folded
+foldBoth kind a b =
+    cond (eqb kind 3) (foldSum 64 a b)
+    (cond (eqb kind 4) (foldDifference 64 a b)
+    (cond (eqb kind 5) (foldProduct 64 a b)
+    (foldRaise 64 a b)))
+
+-- ---- what the machine is at
+-- What acceptance gives for a tree: every part folds to something that fits a plan, its numbers are words, its literal exponents at most 64.
+pub record Compilable (start step : ℕ) (t : Tree) : Type 0 where
+  pub formed : (u : Tree) → Part u t → WellFormed 64 (fold 64 start step u)
+  pub numbers : (place v : ℕ) → Part (Tree.number place v) t → v < 2 ^ 64
+  pub exponents : (a : Tree) (place n : ℕ) → Part (Tree.literalPower a place n) t → n ≤ 64
+  pub few : nodes t ≤ 128
+
+-- Some trees are finished and stand in the plan, and the node words left make t of them.
+pub record Working (t : Tree) (start step : ℕ) (p starts : List ℕ) (depth end : ℕ) (words : List ℕ) : Type 0 where
+  pub done : List Tree
+  pub stands : Stack start step p starts done depth end
+  pub finishes : Finishes t done words
+
+-- The node of this kind and word comes next, on the way to some tree.
+abbrev pub AtNode : ℕ → ℕ → List ℕ → List ℕ → ℕ → ℕ → ℕ → ℕ → Type 0
+AtNode start step p starts depth end kind word =
+    (t : Tree) × (words : List ℕ) × Compilable start step t × Working t start step p starts depth end (kind ∷ word ∷ words)
+
+-- A step that folds the node, whichever tree it is on the way to.
+abbrev pub FoldsNode : ℕ → ℕ → List ℕ → List ℕ → ℕ → ℕ → ℕ → ℕ → List ℕ → List ℕ → ℕ → ℕ → Type 0
+FoldsNode start step p starts depth end kind word q starts′ depth′ end′ =
+    (t : Tree) (words : List ℕ) → Compilable start step t → Working t start step p starts depth end (kind ∷ word ∷ words)
+    → Working t start step q starts′ depth′ end′ words × ((i : ℕ) → rowStart (end + 1) ≤ i → drop i q ≡ drop i p)
+
+-- ---- the tree's words at the end of the plan, and the folded tree at its beginning
+abbrev pub Written : List ℕ → Tree → Type 0
+Written p t = take 257 (drop 2304 p) ≡ treeWords t
+
+pub record FoldedAt (start step : ℕ) (p : List ℕ) (t : Tree) (q : List ℕ) (end : ℕ) : Type 0 where
+  pub rows : end ≡ rowCount (fold 64 start step t)
+  pub few : end ≤ 128
+  pub stands : take (20 * end) (drop 1 q) ≡ wordsOf (rowsFrom 0 (fold 64 start step t))
+  pub behind : drop 2561 q ≡ drop 2561 p

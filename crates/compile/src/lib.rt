@@ -1,0 +1,37 @@
+// Compiling: a formula's text on a grid to the plan of its folded tree, or the refusal's number and place.
+// The folding of the nodes one after the other is in `machine`, that of one operator in the crate `operators`.
+mod machine;
+
+ghost use Rattle.compile.specs.Compiling.{Compiling};
+
+const PLAN_WORDS: usize = 2561;
+
+// The refusal's number and place; 0 and 0 if accepted.
+pub struct CompileAnswer {
+    pub number: u64,
+    pub place: u64,
+}
+
+// Compiles a formula's text on a grid into a lent plan of 2,561 words. A refusal alters no word; words past the plan's own stay.
+pub fn compile(text: &[u8], start: u64, step: u64, plan: &mut [u64]) -> CompileAnswer
+    ensures { λ r. ⌜ Compiling 64 (now (text .entry)) start step (now (plan .entry)) r (now (plan .exit)) ⌝ }
+{
+    if plan.len() < PLAN_WORDS {
+        return CompileAnswer {
+            number: 1,
+            place: 0,
+        };
+    }
+    let read = formula::read(text, &mut plan[2304..2561]);
+    if read.number != 0 {
+        return CompileAnswer {
+            number: read.number,
+            place: read.place,
+        };
+    }
+    machine::fold_tree(plan, start, step);
+    CompileAnswer {
+        number: 0,
+        place: 0,
+    }
+}
