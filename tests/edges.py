@@ -10,9 +10,12 @@ applies is worked out, and the least one counts. A text that can't be printed or
 the program's tables, {33:(} for 33 brackets and <10> for the byte 10. A plan is held to document 01's table line by
 line. Its value at a point is the root's, taken down the rows, where a chain has its value at that index; no chain is
 shifted step by step. After a filling, element j of a chain is the value that the chain from j on has at the number of
-points written. A plan's name is the line of the program's table, made from the rows."""
+points written. A plan's name is the line of the program's table, made from the rows. A formula is folded as a tree by
+document 01's rules: sum chains again value by value, product chains element by element. The values of a compiled plan
+are what the formula's nodes give at each x, whatever it folds to."""
+import re
 from functools import cache
-from itertools import groupby
+from itertools import groupby, product as product_of, zip_longest
 from math import comb, prod
 
 WORD = 2**64
@@ -384,14 +387,14 @@ def moved_on(words, points):
     return result
 
 
-def filling(words, table, budget):
+def filling(words, table, budget, value_at):
     """Refusal, cost, points, budget spent, and the words of the plan and of the table afterwards."""
     refusal = plan_refusal(words)
     if refusal:
         return refusal, 0, 0, 0, words, table
     cost = plan_cost(words)
     points = min(len(table), budget // (cost + 1))
-    written = [root_value(words, i) for i in range(points)]
+    written = [value_at(words, i) for i in range(points)]
     return 0, cost, points, points * (cost + 1), moved_on(words, points), written + table[points:]
 
 
@@ -419,13 +422,17 @@ def listed(words):
 PAIR_ROWS = [[0, 0, 0, 3], [1, 1, 0, 5, 2]]
 
 
+def fills_text(fills):
+    return " ".join(f"t{room}" if budget == BUDGET else f"t{room},{budget}" for room, budget in fills)
+
+
 def plan_text(rows, fills, put, lent):
     """The plan and its fillings in the notation of the program's tables."""
     pair = rows[:2] == PAIR_ROWS
     text = "" if lent == PLAN_WORDS else f"#{lent} "
     text += "p " * pair + runs([listed(row) + " " for row in rows[2 * pair:]], 60)
     text += "".join(f"@{place},{listed(words)} " for place, words in put)
-    return text + " ".join(f"t{room}" if budget == BUDGET else f"t{room},{budget}" for room, budget in fills)
+    return text + fills_text(fills)
 
 
 def put_words(buffer, place, words, r=None):
@@ -455,15 +462,215 @@ def plan(rows, *fills, put=(), lent=PLAN_WORDS, answer=None, cost=None, values=N
     line(f"plan {name}", "\t".join(parts))
 
 
-def filled(words, lent, table, room, budget, name, answer=None, cost=None):
-    """Fills the lent parts, and says what the program prints."""
-    number, total, points, spent, words[:lent], table[:room] = filling(words[:lent], table[:room], budget)
+def filled(words, lent, table, room, budget, name, answer=None, cost=None, value_at=root_value):
+    """Fills the lent parts, and says what the program prints. The value at a point is the root's if nothing is said."""
+    number, total, points, spent, words[:lent], table[:room] = filling(words[:lent], table[:room], budget, value_at)
     assert answer is None or answer == number, name
     assert cost is None or cost == total, name
     shown_rows = "".join(" " + shown_row(row) for row in rows_of(words)[:min(words[0], 10)])
     return (f"sound {number} 0 cost {number} 0 {total} fill {number} 0 {points} {spent} "
             f"table {','.join(map(str, table[:min(points, 20) + 2]))} sum {checksum(table)} "
             f"plan {words[0]}:{shown_rows} sum {checksum(words)}")
+
+
+# ---- compiling
+
+# A folded formula is its kind and what belongs to it: the elements of a constant or a chain, or the operands.
+ZERO = 0, [0]
+ONE = 0, [1]
+
+
+def sum_chain(values_at):
+    """The constant or sum chain with these values at the indices 0 to 16."""
+    f = elements(values_at)
+    return (1, f) if len(f) > 1 else (0, f)
+
+
+def product_chain(f):
+    """The constant or product chain with these elements."""
+    f = [e % WORD for e in f]
+    while len(f) > 1 and f[-1] == 1:
+        f.pop()
+    return (2, f) if len(f) > 1 and f[0] else (0, f[:1])
+
+
+def has_sums(*operands):
+    return all(kind in (0, 1) for kind, *_ in operands)
+
+
+def has_products(*operands):
+    return all(kind in (0, 2) for kind, *_ in operands)
+
+
+def value_by_value(operation, *operands):
+    return sum_chain([operation(*point) for point in zip(*(values(f) for _, f in operands))])
+
+
+def fold_sum(a, b):
+    if ZERO in (a, b):
+        return b if a == ZERO else a
+    return value_by_value(WORKED[3], a, b) if has_sums(a, b) else (3, a, b)
+
+
+def fold_difference(a, b):
+    if ZERO in (a, b):
+        return a if b == ZERO else fold_minus(b)
+    return value_by_value(WORKED[4], a, b) if has_sums(a, b) else (4, a, b)
+
+
+def fold_product(a, b):
+    if ZERO in (a, b):
+        return ZERO
+    if ONE in (a, b):
+        return b if a == ONE else a
+    if has_sums(a, b) and len(a[1]) - 1 + len(b[1]) - 1 <= 16:
+        return value_by_value(WORKED[5], a, b)
+    if has_products(a, b):
+        return product_chain([x * y for x, y in zip_longest(a[1], b[1], fillvalue=1)])
+    return 5, a, b
+
+
+def fold_minus(a):
+    if has_sums(a):
+        return value_by_value(WORKED[6], a)
+    return product_chain([-a[1][0]] + a[1][1:]) if has_products(a) else (6, a)
+
+
+def fold_power(a, n):
+    if n < 2:
+        return a if n else ONE
+    if has_sums(a) and (len(a[1]) - 1) * n <= 16:
+        return value_by_value(lambda value: value**n, a)
+    return product_chain([pow(e, n, WORD) for e in a[1]]) if has_products(a) else (7, a, n)
+
+
+def fold_raise(a, b):
+    kind, (base,) = a
+    assert kind == 0 and base % 2 == 1
+    return product_chain([pow(base, e, WORD) for e in b[1]]) if has_sums(b) else (8, a, b)
+
+
+FOLDS = {3: fold_sum, 4: fold_difference, 5: fold_product, 6: fold_minus, 8: fold_raise}
+
+
+def folded(nodes, start, step):
+    stack = []
+    for kind, word, _ in nodes:
+        if kind in (0, 1):
+            stack.append(sum_chain([start + i * step if kind else word for i in range(POINTS)]))
+        elif kind == 7:
+            stack.append(fold_power(stack.pop(), word))
+        else:
+            operands = [stack.pop() for _ in range(1 if kind == 6 else 2)][::-1]
+            stack.append(FOLDS[kind](*operands))
+    return stack.pop()
+
+
+def lay_out(tree, rows):
+    """Adds the rows of a folded formula, and gives the root's number."""
+    kind, *parts = tree
+    if kind <= 2:
+        rows.append([kind, len(parts[0]) - 1, 0] + parts[0])
+    else:
+        rows.append([kind] + [lay_out(part, rows) if isinstance(part, tuple) else part for part in parts])
+    return len(rows) - 1
+
+
+def direct_value(nodes, x):
+    """What the nodes give at x, operator by operator."""
+    stack = []
+    for kind, word, _ in nodes:
+        if kind in (0, 1):
+            stack.append((x if kind else word) % WORD)
+        elif kind == 7:
+            stack.append(pow(stack.pop(), word, WORD))
+        else:
+            operands = [stack.pop() for _ in range(1 if kind == 6 else 2)][::-1]
+            stack.append(WORKED[kind](*operands) % WORD)
+    return stack.pop()
+
+
+def words_of(rows):
+    words = [0] * PLAN_WORDS
+    words[0] = len(rows)
+    for r, row in enumerate(rows):
+        put_words(words, 1 + ROW_WORDS * r, row)
+    return words
+
+
+def compiled_words(nodes, grid):
+    rows = []
+    lay_out(folded(nodes, *grid), rows)
+    return words_of(rows)
+
+
+def grid_values(nodes, grid, first=0):
+    """The formula's value at each index from the first one on. It must be what the rows give."""
+    start, step = grid
+
+    def value_at(words, i):
+        direct = direct_value(nodes, start + (first + i) * step)
+        assert direct == root_value(words, i)
+        return direct
+
+    return value_at
+
+
+def written_out(name):
+    text = re.sub(r"{(\d+):([^}]*)}", lambda run: run[2] * int(run[1]), name)
+    return re.sub(r"<(\d+)>", lambda byte: chr(int(byte[1])), text)
+
+
+def compiling_text(name, grid, fills, lent):
+    """The formula and its fillings in the notation of the program's tables."""
+    text = "" if lent == PLAN_WORDS else f"#{lent} "
+    text += "=" if grid == (0, 1) else "g{},{}:".format(*grid)
+    return f"{text}{name} {fills_text(fills)}".rstrip()
+
+
+def compiling(name, *fills, grid=(0, 1), lent=PLAN_WORDS, answer=(0, 0), rows=None, count=None, cost=None, values=None,
+              after=None):
+    """A formula compiled into the first words of 3,000, which hold other words before, and fillings. Its name is the
+    text in the notation of the program's tables. What is known otherwise must agree: the number and place, the rows or
+    how many they are, the cost, the values written first and the first row afterwards."""
+    text = written_out(name)
+    name = compiling_text(name, grid, fills, lent)
+    number, place = (1, 0) if lent < PLAN_WORDS else min(refusals(text), default=(0, 0))
+    assert answer == (number, place), name
+    if number:
+        return line(f"plan {name}", f"compile {number} {place} kept")
+    nodes = formula(text)[1]
+    words = compiled_words(nodes, grid)
+    total = plan_cost(words)
+    assert rows is None or words_of(rows) == words, name
+    assert count is None or count == words[0], name
+    assert cost is None or cost == total, name
+    shown_rows = "".join(" " + shown_row(row) for row in rows_of(words)[:words[0]])
+    parts = [f"compile 0 0 cost {plan_refusal(words)} 0 {total} plan {words[0]}:{shown_rows} clean kept"]
+    words += [UNWRITTEN + i for i in range(PLAN_WORDS, 3000)]
+    table = [UNWRITTEN] * 4096
+    done = 0
+    for room, budget in fills:
+        value_at = grid_values(nodes, grid, done)
+        parts.append(filled(words, lent, table, room, budget % WORD, name, value_at=value_at))
+        done += min(room, budget % WORD // (total + 1))
+        assert values is None or [value % WORD for value in values] == table[:len(values)], name
+    assert after is None or after == words[1:1 + len(after)], name
+    line(f"plan {name}", "\t".join(parts))
+
+
+CORNERS = 0, 1, 5, 2**32, HALF, WORD - 1
+
+
+def on_grids(text):
+    """12 values on every grid. The plan's words are told by their checksum."""
+    nodes = formula(text)[1]
+    for grid in product_of(CORNERS, CORNERS):
+        words = compiled_words(nodes, grid)
+        value_at = grid_values(nodes, grid)
+        points = ",".join(str(value_at(words, i)) for i in range(12))
+        line("grid {},{} ".format(*grid) + text,
+             f"0 0 rows {words[0]} cost {plan_cost(words)} sum {checksum(words)} values {points}")
 
 
 # ---- the cases
@@ -1278,6 +1485,247 @@ def plans_of_128_rows():
     plan([[1, 3, 0, 9, 8, 7, 6]] * 64 + [[2, 2, 0, 3, 5, 7]] * 64, (20, MOST), cost=64 * 3 + 64 * 2)
 
 
+FOUR = 4, BUDGET
+THREE_TO_X = [2, 1, 0, 1, 3]
+RAISED_TWICE = [[0, 0, 0, 3], THREE_TO_X, [8, 0, 1]]
+
+
+def constant(word):
+    return [[0, 0, 0, word]]
+
+
+def compiled_documents():
+    """Document 01's list of edges and its printer's example."""
+    compiling("x^3", (10, 15), rows=[CUBE], cost=3, values=[0, 1, 8, UNWRITTEN], after=[1, 3, 0, 27, 37, 24, 6])
+    compiling("3*x+1", FOUR, grid=(5, 2), rows=[[1, 1, 0, 16, 6]])
+    for grid in ((0, 1), (0, 0), (5, 2), (0, 2**32), (1, HALF), (HALF, HALF), (HALF - 1, 2**32 + 1), (WORD - 1, 1),
+                 (WORD - 1, WORD - 1), (12345678901234567890, 9876543210987654321)):
+        compiling("x*x-x^2+7", FOUR, grid=grid, rows=[SEVEN])
+    compiling("x^2", FOUR, grid=(0, 2**32), rows=constant(0))
+    compiling("x", FOUR, grid=(0, HALF), rows=[[1, 1, 0, 0, HALF]])
+    compiling("x^2+x", FOUR, grid=(0, HALF), rows=[[1, 1, 0, 0, HALF]])
+    compiling("-x^2", FOUR, rows=[[1, 2, 0, 0, -1, -2]])
+    compiling("3^(x)", FOUR, rows=[THREE_TO_X])
+    compiling("3^(3^(x))", FOUR, rows=RAISED_TWICE, cost=129, values=[3, 27, 19683, 7625597484987])
+    compiling("0^0", FOUR, rows=constant(1))
+    compiling("2^3", FOUR, rows=constant(8))
+    compiling("2^(3)", answer=(8, 1))
+    compiling("x^(2)", answer=(8, 1))
+    compiling("x^17", FOUR, rows=[X, [7, 0, 17]], cost=17)
+    compiling("x^16", (20, BUDGET), rows=[grid_row(lambda i: i**16)], cost=16)
+    assert grid_row(lambda i: i**16)[-1] == 20922789888000
+    compiling("x^8*x^8", (20, BUDGET), rows=[grid_row(lambda i: i**16)])
+    compiling("x^8*x^9", FOUR, count=3, cost=18)
+    for text, place in (("", 0), ("01", 1), ("1-", 2), ("x^2^3", 3)):
+        compiling(text, answer=(4, place))
+    compiling("18446744073709551615", FOUR, rows=constant(-1))
+    compiling("18446744073709551616", answer=(5, 0))
+    compiling("x^64", FOUR, rows=[X, [7, 0, 64]], cost=64)
+    compiling("x^65", answer=(6, 2))
+    compiling("x{63:+x}", FOUR, rows=[[1, 1, 0, 0, 64]])
+    compiling("x{64:+x}", answer=(7, 0))
+    compiling("x^2", (3, BUDGET), count=1, cost=2)
+    compiling("x+3^(x)", (2, BUDGET), rows=[X, THREE_TO_X, [3, 0, 1]], cost=3, values=[1, 4])
+    compiling("2^(x)", answer=(8, 1))
+
+
+def compiled_settled():
+    """Where document 01 leaves room: reading, then folding."""
+    for text, answer in (("99999999999999999999+(", (4, 22)), ("x^65+99999999999999999999", (5, 5)),
+                         ("x^99999999999999999999", (5, 2)), ("){33:(}", (4, 0)), ("x{33:(}", (3, 33)),
+                         ("2^(2^(x))", (8, 1)), ("0^(0)", (8, 1)), ("x<13>", (4, 1)), ("<0>x", (4, 0)),
+                         ("x<255>", (4, 1))):
+        compiling(text, answer=answer)
+    for grid in ((0, 1), (3, 0), (0, HALF)):
+        compiling("(x^0)^(2)", grid=grid, answer=(8, 5))
+        compiling("(0*x+3)^(2)", grid=grid, answer=(8, 7))
+    compiling("-3^(x)", FOUR, rows=[[2, 1, 0, -1, 3]])
+    compiling("(-3)^(x)", FOUR, rows=[[2, 1, 0, 1, -3]])
+    compiling("3^(2)", FOUR, rows=constant(9))
+
+    for text in ("x", "x^17", "3^(x)", "3^(3^(x))", "1^(3^(x))", "x+3^(x)", "3^(x)-x", "x*3^(x)", "-x^17", "x^8*x^9"):
+        compiling(text, (2, BUDGET), grid=(5, 0), count=1, cost=0)
+    compiling("0-x^17", FOUR, rows=[X, [7, 0, 17], [6, 1]])
+    compiling("--x^17", FOUR, rows=[X, [7, 0, 17], [6, 1], [6, 2]])
+    compiling("0-(0-x^17)", FOUR, rows=[X, [7, 0, 17], [6, 1], [6, 2]])
+    compiling("x^17-x^17", FOUR, rows=[X, [7, 0, 17], X, [7, 2, 17], [4, 1, 3]])
+    compiling("3^(x)-3^(x)", FOUR, rows=[THREE_TO_X, THREE_TO_X, [4, 0, 1]])
+    compiling("x^17", FOUR, grid=(0, 2**32), rows=[[1, 1, 0, 0, 2**32], [7, 0, 17]])
+    compiling("(2*3^(x))^64", FOUR, rows=constant(0))
+    compiling("(9223372036854775809^(x))^2", FOUR, rows=constant(1))
+    compiling("1^(3^(x))", FOUR, rows=[[0, 0, 0, 1], THREE_TO_X, [8, 0, 1]], cost=129)
+    compiling("3^(x)+1", FOUR, rows=[THREE_TO_X, [0, 0, 0, 1], [3, 0, 1]])
+
+
+SHORT_SUM = "(x^2+3)"
+SHORT_PRODUCT = "(2*3^(x))"
+# A row of each kind from 3 to 8, and how many rows its formula has.
+OPERATOR_ROWS = {"(x+3^(x))": 3, "(3^(x)-x)": 3, "(x*3^(x))": 3, "(-x^17)": 3, "x^17": 2, "3^(3^(x))": 3}
+
+
+def folded_pairs():
+    """+ - * over each pair of a constant, a sum chain, a product chain and a row."""
+    operands = {"5": 0, SHORT_SUM: 1, SHORT_PRODUCT: 2, "(x+3^(x))": 3}
+    for sign in "+-*":
+        for a, kind_a in operands.items():
+            for b, kind_b in operands.items():
+                joins = {kind_a, kind_b} <= ({0, 1, 2} if sign == "*" else {0, 1}) and {kind_a, kind_b} != {1, 2}
+                rows = 1 if joins else 1 + sum(3 if kind == 3 else 1 for kind in (kind_a, kind_b))
+                compiling(f"{a}{sign}{b}", FOUR, count=rows)
+
+
+def dropped_units():
+    """A 0 or 1 that a rule drops, beside a chain or a row of every kind; then with rows ahead that must stay."""
+    for a, rows in {SHORT_SUM: 1, SHORT_PRODUCT: 1, **OPERATOR_ROWS}.items():
+        for text in (f"0+{a}", f"{a}+0", f"{a}-0", f"1*{a}", f"{a}*1"):
+            compiling(text, (3, BUDGET), count=rows)
+        compiling(f"0-{a}", (3, BUDGET), count=rows + (rows > 1))
+        compiling(f"0*{a}", (3, BUDGET), rows=constant(0))
+        compiling(f"{a}*0", (3, BUDGET), rows=constant(0))
+    for a, rows in OPERATOR_ROWS.items():
+        compiling(f"x^17*(0+{a})", (3, BUDGET), count=rows + 3)
+        compiling(f"x^17+(0-{a})", (3, BUDGET), count=rows + 4)
+        compiling(f"x^17-1*{a}", (3, BUDGET), count=rows + 3)
+        compiling(f"-x^17+0*{a}", (3, BUDGET), count=3)
+        compiling(f"-x^17-{a}*0", (3, BUDGET), count=3)
+    for text, rows in (("0+(1*(0+x*3^(x)))", 3), ("0-(0-(0-x*3^(x)))", 6), ("(x-x)+(x+3^(x))", 3),
+                       ("(x+3^(x))-(x-x)", 3), ("x^0*(x+3^(x))", 3), ("3^(0*x)*(x+3^(x))", 3),
+                       ("(x+3^(x))*(3^(x)*3^(-x))", 3), ("(x-x)*(x+3^(x))", 1), ("(x-x)-(x+3^(x))", 4),
+                       ("x^17+(0+x^17*(1*x^17))", 8)):
+        compiling(text, (3, BUDGET), count=rows)
+
+
+def folded_chains():
+    """Sum chains of unequal lengths, and product chains; what is left of them after trimming, down to constants."""
+    for text, rows in (("x+x^3", [[1, 3, 0, 0, 2, 6, 6]]), ("x^3+x", [[1, 3, 0, 0, 2, 6, 6]]),
+                       ("x-x^3", [[1, 3, 0, 0, 0, -6, -6]]), ("x^3-x", [[1, 3, 0, 0, 0, 6, 6]]),
+                       ("x^3+x-x^3", [X]), ("x^3-(x^3+5)", constant(-5)), ("x^3-x^3", constant(0)),
+                       ("5-x^2", [[1, 2, 0, 5, -1, -2]]), ("0-x^2", [[1, 2, 0, 0, -1, -2]]),
+                       ("--x^2", [[1, 2, 0, 0, 1, 2]]), ("-(2*3^(x))", [[2, 1, 0, -2, 3]]),
+                       ("--(2*3^(x))", [[2, 1, 0, 2, 3]]), ("0-2*3^(x)", [[2, 1, 0, -2, 3]]),
+                       ("3*x^2", [[1, 2, 0, 0, 3, 6]]), ("x^2*3", [[1, 2, 0, 0, 3, 6]]),
+                       ("9223372036854775808*x^2", [[1, 1, 0, 0, HALF]]),
+                       ("x^2*9223372036854775808", [[1, 1, 0, 0, HALF]]),
+                       ("9223372036854775808*(x^2+x)", constant(0)), ("x*2*9223372036854775808", constant(0)),
+                       ("(4294967296*x)*(4294967296*x+2)", [[1, 1, 0, 0, 2**33]]),
+                       ("(4294967296*x+1)^2", [[1, 1, 0, 1, 2**33]]), ("(4294967296*x)^2", constant(0)),
+                       ("(9223372036854775808*x+3)^2", constant(9)),
+                       ("3^(x)*5^(x^2)", [[2, 2, 0, 1, 15, 25]]), ("5^(x^2)*3^(x)", [[2, 2, 0, 1, 15, 25]]),
+                       ("7*3^(x)*(2*5^(x^2))", [[2, 2, 0, 14, 15, 25]]), ("2*3^(x)", [[2, 1, 0, 2, 3]]),
+                       ("3^(x)*2", [[2, 1, 0, 2, 3]]), ("3^(x)*3^(-x)", constant(1)), ("5*3^(x)*3^(-x)", constant(5)),
+                       ("3^(x^2)*3^(x-x^2)", [THREE_TO_X]), ("9223372036854775808*(2*3^(x))", constant(0)),
+                       ("(2*3^(x))*9223372036854775808", constant(0)),
+                       ("(4294967296*3^(x))*(4294967296*5^(x))", constant(0)),
+                       ("4294967296*3^(x)*2147483648", [[2, 1, 0, HALF, 3]])):
+        compiling(text, FOUR, rows=rows)
+
+
+def folded_products():
+    """S*S and S^n on both sides of length 16, P^n, and powers of rows."""
+    for k, l in ((1, 15), (15, 1), (2, 14), (7, 9), (13, 3), (16, 0), (0, 16)):
+        compiling(f"x^{k}*x^{l}", FOUR, rows=[grid_row(lambda i: i**16)])
+    for k, l in ((1, 16), (16, 1), (2, 15), (9, 8), (14, 3), (16, 16)):
+        compiling(f"x^{k}*x^{l}", FOUR, count=3, cost=k + l + 1)
+    compiling("(x^8+x)*(3*x^8-2)", FOUR, count=1, cost=16)
+    compiling("(x+1)^8*(x-1)^8*x", FOUR, count=3, cost=18)
+    for k, n in ((2, 8), (4, 4), (8, 2), (16, 1)):
+        compiling(f"(x^{k})^{n}", FOUR, rows=[grid_row(lambda i: i**16)])
+    for k, n in ((5, 3), (3, 5), (7, 2)):
+        compiling(f"(x^{k}+1)^{n}", FOUR, count=1, cost=k * n)
+    for k, n in ((2, 9), (3, 6), (4, 5), (5, 4), (6, 3), (8, 3), (9, 2), (16, 2), (16, 64), (1, 63)):
+        compiling(f"(x^{k})^{n}", FOUR, count=2, cost=k + n - 1)
+    for text, rows in (("(3^(x))^2", [[2, 1, 0, 1, 9]]), ("(2*3^(x))^3", [[2, 1, 0, 8, 27]]),
+                       ("(2*3^(x))^63", [[2, 1, 0, HALF, 3**63]]), ("(3^(x^2))^2", [[2, 2, 0, 1, 9, 81]]),
+                       ("(-3^(x))^2", [[2, 1, 0, 1, 9]]), ("((-1)^(x))^2", constant(1)),
+                       ("((-1)^(x))^3", [[2, 1, 0, 1, -1]]),
+                       ("(9223372036854775809^(x^2))^2", constant(1)), ("7^0", constant(1)), ("7^1", constant(7)),
+                       ("2^63", constant(HALF)), ("2^64", constant(0)), ("(-1)^63", constant(-1)),
+                       ("0^64", constant(0))):
+        compiling(text, FOUR, rows=rows)
+    for a, rows in {SHORT_SUM: 1, SHORT_PRODUCT: 1, **OPERATOR_ROWS}.items():
+        name = a if a.startswith("(") else f"({a})"
+        compiling(f"{name}^0", (3, BUDGET), rows=constant(1))
+        compiling(f"{name}^1", (3, BUDGET), count=rows)
+        compiling(f"{name}^2", (3, BUDGET), count=rows + (rows > 1))
+        if rows > 1:
+            compiling(f"5-{name}^64", (3, BUDGET), count=rows + 3)
+            compiling(f"-{name}", (3, BUDGET), count=rows + 1)
+
+
+def folded_raises():
+    """C by a constant, by a sum chain, by a product chain and by rows."""
+    inverse = constant(pow(3, -1, WORD))
+    for text, rows in (("3^(0)", constant(1)), ("3^(5)", constant(243)), ("3^(18446744073709551615)", inverse),
+                       ("3^(-1)", inverse), ("(-3)^(3)", constant(-27)), ("1^(x)", constant(1)),
+                       ("1^(x^16)", constant(1)), ("18446744073709551615^(x)", [[2, 1, 0, 1, -1]]),
+                       ("(-1)^(2*x)", constant(1)), ("(-1)^(x^2)", [[2, 1, 0, 1, -1]]), ("(-1)^(2*x+1)", constant(-1)),
+                       ("3^(x^2+1)", [[2, 2, 0, 3, 3, 9]]), ("3^(4611686018427387904*x)", constant(1)),
+                       ("3^(4611686018427387904*x+2)", constant(9)),
+                       ("3^(2305843009213693952*x)", [[2, 1, 0, 1, HALF + 1]]),
+                       ("9223372036854775809^(x)", [[2, 1, 0, 1, HALF + 1]]),
+                       ("9223372036854775809^(x^2)", [[2, 1, 0, 1, HALF + 1]]),
+                       ("(3^(2))^(x)", [[2, 1, 0, 1, 9]]), ("(1+2*3)^(x)", [[2, 1, 0, 1, 7]]),
+                       ("3^(x)*3^(-x)*5^(x)", [[2, 1, 0, 1, 5]])):
+        compiling(text, FOUR, rows=rows)
+    compiling("3^(x^16)", FOUR, count=1, cost=16)
+    for exponent, rows in {"2*5^(x)": 1, **OPERATOR_ROWS}.items():
+        compiling(f"7^({exponent})", FOUR, count=rows + 2)
+        compiling(f"x^17+(2*3+1)^({exponent})", (3, BUDGET), count=rows + 5)
+    compiling("3^(3^(3^(x)))", FOUR, count=5, cost=257)
+    compiling("(-3)^(0*x^17+2)", FOUR, rows=constant(9))
+
+
+def folded_on_grids():
+    """Folds go by trimmed lengths: chains that are short on one grid and long on another."""
+    for text, grid, rows in (("x^2*x^15", (0, 2**32), 1), ("x*x^16", (0, 2**32), 1), ("x^17", (0, HALF), 2),
+                             ("(x^2)^9", (0, 2**32), 1), ("(x^2+x)^17", (0, HALF), 2), ("(x^2)^17", (1, HALF), 1),
+                             ("x^16*x^16", (0, 2**62), 1), ("x^16*x", (3, 2**62), 1), ("x^8*x^9", (1, 2**31), 1),
+                             ("x^8*x^9", (1, 2**63), 1), ("(2*x)^17", (0, HALF), 1), ("3^(x^17)", (0, 0), 1),
+                             ("3^(x)", (0, 2**62), 1), ("3^(x)", (1, 2**61), 1), ("3^(3^(x))", (7, 2**62), 1),
+                             ("x+3^(x)", (7, 2**62), 1), ("x*3^(x)", (1, 2**63), 1), ("x^17+3^(x)", (1, 2**62), 4),
+                             ("x*(2*3^(x))", (0, HALF), 1), ("5*x-3*x^2+x^3", (WORD - 7, 2**40 + 1), 1)):
+        compiling(text, FOUR, grid=grid, count=rows)
+
+
+def compiled_limits():
+    """Both sides of the limits: words lent, bytes, brackets, nodes and rows."""
+    for lent in (0, 1, 21, 257, 2304, 2560):
+        compiling("x^3", lent=lent, answer=(1, 0))
+    for lent in (2562, 2600, 3000):
+        compiling("x^3", (10, 15), lent=lent, rows=[CUBE])
+    for text, answer in (("{1025:x}", (2, 1024)), ("{33:(}", (3, 32)), ("x^2^3", (4, 3)),
+                         ("18446744073709551616", (5, 0)), ("x^65", (6, 2)), ("{129:-}x", (7, 0)), ("2^(x)", (8, 1))):
+        compiling(text, lent=2560, answer=(1, 0))
+        compiling(text, lent=2600, answer=answer)
+    compiling("{48:18446744073709551615+}1000000000000000", (2, BUDGET), rows=constant(10**15 - 48))
+    compiling("{48:18446744073709551615+}x^17*3^(x)+12345", (3, BUDGET), count=8)
+    compiling("{48:18446744073709551615+}x^17*3^(x)+123456", answer=(2, 1024))
+    compiling("{32:(}x{32:)}", FOUR, rows=[X])
+    compiling("{33:(}x{33:)}", answer=(3, 32))
+    compiling("{32:3^(}x{32:)}", (3, MOST), count=63, cost=31 * 128 + 1)
+    compiling("{33:3^(}x{33:)}", answer=(3, 98))
+    compiling("{32:(0+}x^17{32:)}", FOUR, rows=[X, [7, 0, 17]])
+    compiling("{31:0-(}x^17{31:)}", FOUR, count=33)
+    compiling("{25:1*(x^17+}x^17{25:)}", (3, MOST), count=77)
+    compiling("{126:-}x^17", FOUR, count=128, cost=17 + 126)
+    compiling("{127:-}x^17", answer=(7, 0))
+    compiling("x^17{42:+x^17}", (3, MOST), count=128, cost=43 * 17 + 42)
+    compiling("x^17{42:*x^17}", (3, MOST), count=128, cost=43 * 17 + 42)
+    compiling("x^17{42:-x^16}", (3, MOST), count=86)
+    compiling("({125:-}x^17)^64", FOUR, count=128, cost=17 + 125 + 63)
+    compiling("(x{63:+x})^2", FOUR, rows=[[1, 2, 0, 0, 4096, 8192]])
+    compiling("-x^17{42:+x^17}", answer=(7, 0))
+    compiling("0+(x^17{41:-x^17})", (3, MOST), count=125)
+    compiling("0-(-x^17{41:+x^17})", (3, MOST), count=127)
+    compiling("x^17*3^(x)-5", (1, MOST), (0, MOST), (7, 60), (7, 20), (4, MOST), count=6, cost=20)
+
+
+def grids():
+    for text in ("x*x-x^2+7", "x", "3*x+1", "-x^2", "x^16", "x^17", "3^(x)", "5*7^(x^2+x)", "3^(3^(x))", "x+3^(x)",
+                 "x*3^(x)-x^9*x^8", "0-(x-3^(x))^3", "(2-3^(x^3+x))^2*x", "(-3)^(x^17)+1*x"):
+        on_grids(text)
+
+
 if __name__ == "__main__":
     chains()
     sums()
@@ -1310,3 +1758,13 @@ if __name__ == "__main__":
     wrapping_fills()
     several_calls()
     plans_of_128_rows()
+    compiled_documents()
+    compiled_settled()
+    compiled_limits()
+    folded_pairs()
+    dropped_units()
+    folded_chains()
+    folded_raises()
+    folded_on_grids()
+    folded_products()
+    grids()

@@ -10,13 +10,13 @@ use Rattle.chain.specs.Chain.{value, rest, joined, words, trimmed, row}
 use Rattle.chain.specs.SumChain.{sumAt, sumShift, sum, difference, scaled, times, product}
 use Rattle.chain.specs.Answer.{given}
 use Rattle.chain.proofs.SumLaws.{value-sum, value-scaled, sum-shift, difference-as-sum}
-use Rattle.chain.proofs.Trimming.{value-trimmed-sum, trimmed-row, length-row, length-trimmed, length-trimmed-none, length-trimmed-some, take-trimmed}
+use Rattle.chain.proofs.Trimming.{value-trimmed-sum, trimmed-row, length-row, length-trimmed, length-trimmed-some, take-trimmed}
 use Rattle.chain.proofs.Canonical.{same-row}
 use Rattle.chain.proofs.Rows.{row-whole}
 use Rattle.chain.proofs.Shifting.{length-shift}
 
 -- ---- lengths
-length-joined : (_⊙_ : ℕ → ℕ → ℕ) (unit n : ℕ) (f g : List ℕ) → length f ≤ n → length g ≤ n → length (joined _⊙_ unit f g) ≤ n
+pub length-joined : (_⊙_ : ℕ → ℕ → ℕ) (unit n : ℕ) (f g : List ℕ) → length f ≤ n → length g ≤ n → length (joined _⊙_ unit f g) ≤ n
 unfolding joined
 length-joined _⊙_ unit n [] g p q = rw (length-map g (λ b. _⊙_ unit b)) q
 length-joined _⊙_ unit zero (a ∷ f) g p q = absurd (not-suc-le-zero p)
@@ -73,11 +73,7 @@ module _ (f : List ℕ) (k : ℕ) (long : length f ≡ 17) where
       whole n m p h = omega arith
 
   pub length-given : length (given f k) ≤ 17
-  length-given = go (take (k + 1) f) length-kept
-    where
-      go : (g : List ℕ) → length g ≤ 17 → length (trimmed 0 g) ≤ 17
-      go [] h = omega (arith, length-trimmed-none)
-      go (a ∷ g) h = omega (arith, length-trimmed a g)
+  length-given = length-trimmed (take (k + 1) f) 16 length-kept
 
   pub kept-value : (i : ℕ) → sumAt (row 17 (take (k + 1) f)) i ≡ sumAt (given f k) i
   kept-value i = sym (value-trimmed-sum (row 17 (take (k + 1) f)) i) ∙ ap (λ g. sumAt g i) kept-trimmed
@@ -93,30 +89,35 @@ pub trimmed-as : (w : ℕ) (h there : List ℕ) → length there ≤ 17 → ((i 
 trimmed-as w h there short same =
     ap (λ g. trimmed 0 g) (same-row w 17 h there same) ∙ trimmed-row 16 (words w there) (rw (length-map there (λ a. a % 2 ^ w)) short)
 
+-- Chains of the same values, the later ones of 17 words at most: sums and differences trim to the same.
+module _ (w : ℕ) (f f′ g g′ : List ℕ) (same-f : (i : ℕ) → sumAt f i ≡ sumAt f′ i) (same-g : (i : ℕ) → sumAt g i ≡ sumAt g′ i)
+    (short-f : length f′ ≤ 17) (short-g : length g′ ≤ 17) where
+  pub sum-as : trimmed 0 (row 17 (words w (sum f g))) ≡ trimmed 0 (words w (sum f′ g′))
+  sum-as =
+      trimmed-as w (sum f g) (sum f′ g′) (length-joined _+_ 0 17 f′ g′ short-f short-g)
+      (λ i h. ap (λ z. z % 2 ^ w) (value-sum f g i ∙ ap₂ _+_ (same-f i) (same-g i) ∙ sym (value-sum f′ g′ i)))
+
+  pub difference-as : trimmed 0 (row 17 (difference w f g)) ≡ trimmed 0 (difference w f′ g′)
+  difference-as =
+      ap (λ h. trimmed 0 (row 17 h)) (difference-as-sum w f g)
+      ∙ trimmed-as w (sum f (scaled (2 ^ w - 1) g)) (sum f′ (scaled (2 ^ w - 1) g′))
+      (length-joined _+_ 0 17 f′ (scaled (2 ^ w - 1) g′) short-f (rw (length-map g′ (λ a. (2 ^ w - 1) * a)) short-g))
+      (λ i h. ap (λ z. z % 2 ^ w)
+      (value-sum f (scaled (2 ^ w - 1) g) i
+      ∙ ap₂ _+_ (same-f i) (value-scaled (2 ^ w - 1) g i ∙ ap (λ z. (2 ^ w - 1) * z) (same-g i) ∙ sym (value-scaled (2 ^ w - 1) g′ i))
+      ∙ sym (value-sum f′ (scaled (2 ^ w - 1) g′) i)))
+      ∙ ap (λ h. trimmed 0 h) (sym (difference-as-sum w f′ g′))
+
 module _ (w : ℕ) (f : List ℕ) (k : ℕ) (f-long : length f ≡ 17) (g : List ℕ) (l : ℕ) (g-long : length g ≡ 17) where
   pub sum-trims : trimmed 0 (row 17 (words w (sum (row 17 (take (k + 1) f)) (row 17 (take (l + 1) g))))) ≡ trimmed 0 (words w (sum (given f k) (given g l)))
   sum-trims =
-      trimmed-as w (sum (row 17 (take (k + 1) f)) (row 17 (take (l + 1) g))) (sum (given f k) (given g l))
-      (length-joined _+_ 0 17 (given f k) (given g l) (length-given f k f-long) (length-given g l g-long))
-      (λ i h. ap (λ z. z % 2 ^ w)
-      (value-sum (row 17 (take (k + 1) f)) (row 17 (take (l + 1) g)) i
-      ∙ ap₂ _+_ (kept-value f k f-long i) (kept-value g l g-long i)
-      ∙ sym (value-sum (given f k) (given g l) i)))
+      sum-as w (row 17 (take (k + 1) f)) (given f k) (row 17 (take (l + 1) g)) (given g l) (kept-value f k f-long) (kept-value g l g-long)
+      (length-given f k f-long) (length-given g l g-long)
 
   pub difference-trims : trimmed 0 (row 17 (difference w (row 17 (take (k + 1) f)) (row 17 (take (l + 1) g)))) ≡ trimmed 0 (difference w (given f k) (given g l))
   difference-trims =
-      ap (λ h. trimmed 0 (row 17 h)) (difference-as-sum w (row 17 (take (k + 1) f)) (row 17 (take (l + 1) g)))
-      ∙ trimmed-as w (sum (row 17 (take (k + 1) f)) (scaled (2 ^ w - 1) (row 17 (take (l + 1) g)))) (sum (given f k) (scaled (2 ^ w - 1) (given g l)))
-      (length-joined _+_ 0 17 (given f k) (scaled (2 ^ w - 1) (given g l)) (length-given f k f-long)
-      (rw (length-map (given g l) (λ a. (2 ^ w - 1) * a)) (length-given g l g-long)))
-      (λ i h. ap (λ z. z % 2 ^ w)
-      (value-sum (row 17 (take (k + 1) f)) (scaled (2 ^ w - 1) (row 17 (take (l + 1) g))) i
-      ∙ ap₂ _+_ (kept-value f k f-long i)
-      (value-scaled (2 ^ w - 1) (row 17 (take (l + 1) g)) i
-      ∙ ap (λ z. (2 ^ w - 1) * z) (kept-value g l g-long i)
-      ∙ sym (value-scaled (2 ^ w - 1) (given g l) i))
-      ∙ sym (value-sum (given f k) (scaled (2 ^ w - 1) (given g l)) i)))
-      ∙ ap (λ h. trimmed 0 h) (sym (difference-as-sum w (given f k) (given g l)))
+      difference-as w (row 17 (take (k + 1) f)) (given f k) (row 17 (take (l + 1) g)) (given g l) (kept-value f k f-long) (kept-value g l g-long)
+      (length-given f k f-long) (length-given g l g-long)
 
   pub product-trims : (length (given f k) - 1) + (length (given g l) - 1) ≤ 16
       → trimmed 0 (row 17 (words w (product (given f k) (given g l)))) ≡ trimmed 0 (words w (product (given f k) (given g l)))

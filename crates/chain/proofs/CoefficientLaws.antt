@@ -3,7 +3,7 @@
 use mathlib.Core.Path.{_≡_, refl, sym, ap, ap₂, _∙_}
 use mathlib.Core.List.{List, [], _∷_}
 use Prim.Native.Nat.{ℕ, zero, suc, _+_, _*_, _%_, _^_, _<_, _≤_}
-use native.Mathlib.Nat.{add-zero, mul-zero, zero-mul, mod-add-mod, add-mod-mod, mod-eq-of-lt, zero-mod, zero-add, pow-zero, pow-suc, add-suc, suc-add, le-of-suc-le-suc, not-suc-le-zero}
+use native.Mathlib.Nat.{add-zero, mul-zero, zero-mul, mod-add-mod, add-mod-mod, mod-eq-of-lt, zero-add, pow-zero, pow-suc, add-suc, suc-add, le-of-suc-le-suc, not-suc-le-zero}
 use native.Mathlib.Omega.{arith}
 use native.Mathlib.Numerals.{add-one}
 use lib.ListN.{length, getD, drop, drop-of-length-le, length-map}
@@ -11,7 +11,7 @@ use lib.Seq.{drop-cons}
 use Rattle.chain.specs.Chain.{joined, words, trimmed, row}
 use Rattle.chain.specs.SumChain.{sumAt, sum, scaled}
 use Rattle.chain.specs.Coefficients.{stirling, factorial, onto, polynomialFrom, polynomial, elementFrom, tabulated, fromCoefficients}
-use Rattle.chain.proofs.Rows.{entry-map, row-whole}
+use Rattle.chain.proofs.Rows.{entry-words, row-whole}
 use Rattle.chain.proofs.SumLaws.{sum-now, sum-next, sum-none, sum-constant, value-sum, value-scaled, value-words}
 use Rattle.chain.proofs.Trimming.{value-trimmed-sum}
 use Rattle.chain.proofs.Values as Values
@@ -162,7 +162,7 @@ element-done M a j m total fits h =
 
 pub entry-coefficients : (w : ℕ) (a : List ℕ) (m : ℕ) → m < 17 → getD (words w (fromCoefficients a)) m 0 ≡ elementFrom 0 a m % 2 ^ w
 entry-coefficients w a m h =
-    entry-map (λ x. x % 2 ^ w) (zero-mod (2 ^ w)) (fromCoefficients a) m
+    entry-words w (fromCoefficients a) m
     ∙ ap (λ z. z % 2 ^ w) (entry-tabulated (elementFrom 0 a) 0 17 m h ∙ ap (elementFrom 0 a) (zero-add m))
 
 length-tabulated : (F : ℕ → ℕ) (m n : ℕ) → length (tabulated F m n) ≡ n

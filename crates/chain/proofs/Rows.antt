@@ -31,6 +31,9 @@ entry-map h e [] i = sym e
 entry-map h e (a ∷ f) zero = refl
 entry-map h e (a ∷ f) (suc i) = entry-map h e f i
 
+pub entry-words : (w : ℕ) (f : List ℕ) (i : ℕ) → getD (words w f) i 0 ≡ getD f i 0 % 2 ^ w
+entry-words w f i = entry-map (λ a. a % 2 ^ w) (zero-mod (2 ^ w)) f i
+
 pub entry-joined : (_⊙_ : ℕ → ℕ → ℕ) → _⊙_ 0 0 ≡ 0 → (f g : List ℕ) (i : ℕ)
     → getD (joined _⊙_ 0 f g) i 0 ≡ _⊙_ (getD f i 0) (getD g i 0)
 unfolding joined
@@ -75,9 +78,13 @@ row-store n i h p e q = ap₂ (λ l x. set l i x) e q ∙ store n i h p ∙ ap (
 pub row-filled : (n : ℕ) (h : List ℕ) {r : List ℕ} (i : ℕ) → r ≡ row n (take i h) → i ≡ n → r ≡ row n h
 row-filled n h i e q = e ∙ ap (λ k. row n (take k h)) q ∙ row-take n h
 
+-- Where h has n elements, they are all there are.
+pub array-filled : (n : ℕ) (h : List ℕ) {r : List ℕ} (i : ℕ) → length h ≡ n → r ≡ row n (take i h) → i ≡ n → r ≡ h
+array-filled n h i long e q = row-filled n h i e q ∙ row-whole n h long
+
 -- ---- the entries of what the array functions make
 pub entry-sum : (w : ℕ) (f g : List ℕ) (i : ℕ) → getD (words w (sum f g)) i 0 ≡ (getD f i 0 + getD g i 0) % 2 ^ w
-entry-sum w f g i = entry-map (λ a. a % 2 ^ w) (zero-mod (2 ^ w)) (sum f g) i ∙ ap (λ z. z % 2 ^ w) (entry-joined _+_ refl f g i)
+entry-sum w f g i = entry-words w (sum f g) i ∙ ap (λ z. z % 2 ^ w) (entry-joined _+_ refl f g i)
 
 pub entry-difference : (w : ℕ) (f g : List ℕ) (i : ℕ) → getD (difference w f g) i 0 ≡ Word.difference w (getD f i 0) (getD g i 0)
 entry-difference w f g i = entry-joined (Word.difference w) (nothing w) f g i

@@ -117,13 +117,10 @@ unfolding withoutTrailing
 length-without-trailing [] = omega arith
 length-without-trailing (a ∷ f) = omega (arith, length-with-last a (withoutTrailing 0 f), length-without-trailing f)
 
-pub length-trimmed : (a : ℕ) (f : List ℕ) → length (trimmed 0 (a ∷ f)) ≤ suc (length f)
-unfolding trimmed
-length-trimmed a f = omega (arith, length-without-trailing f)
-
-pub length-trimmed-none : length (trimmed 0 []) ≡ 1
+pub length-trimmed : (f : List ℕ) (n : ℕ) → length f ≤ suc n → length (trimmed 0 f) ≤ suc n
 unfolding trimmed withoutTrailing
-length-trimmed-none = refl
+length-trimmed [] n h = omega arith
+length-trimmed (a ∷ f) n h = omega (arith, length-without-trailing f)
 
 pub length-trimmed-some : (f : List ℕ) → 0 < length (trimmed 0 f)
 unfolding trimmed

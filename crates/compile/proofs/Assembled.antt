@@ -1,7 +1,7 @@
 -- The plan is put together: the number of rows in front, the rows, and zeros behind them. And what reading into the last words of a plan leaves.
 use mathlib.Core.Path.{_≡_, refl, sym, ap, ap₂, subst, _∙_}
 use mathlib.Core.List.{List, [], _∷_, _++_, append-nil}
-use Prim.Native.Nat.{ℕ, suc, _+_, _-_, _*_, _≤_, _<_}
+use Prim.Native.Nat.{ℕ, suc, _+_, _-_, _*_, _≤_}
 use native.Mathlib.Omega.{arith}
 use lib.ListN.{length, take, drop, set, replicate, length-append, length-drop, take-append-drop}
 use lib.Seq.{take-at, drop-at, drop-length, length-take-le}
@@ -9,9 +9,10 @@ use Rattle.plan.proofs.RowLaws.{part, partPut, part-put}
 use Rattle.formula.specs.Tree.{Tree}
 use Rattle.formula.specs.Words.{treeWords}
 use Rattle.formula.specs.Refusals as Refusals
-use Rattle.formula.specs.Refusals.{Fault, Accepted, Reading}
+use Rattle.formula.specs.Refusals.{Accepted, Reading}
 use Rattle.formula.specs.declared.ReadAnswer.{ReadAnswer}
 use Rattle.formula.proofs.Answers.{accepted-fits}
+use Rattle.formula.proofs.Judging.{fault-number}
 use Rattle.formula.proofs.Written.{length-tree-words}
 use Rattle.folding.specs.Folded.{Folded}
 use Rattle.folding.specs.Folding.{fold}
@@ -56,18 +57,6 @@ accepted-compilable start step good = record {
 }
 
 -- ---- reading into the last 257 words of the plan
--- No refusal has the number 0.
-fault-some : {w : ℕ} {s : List ℕ} {n p : ℕ} → Fault w s n p → 0 < n
-fault-some (Refusals.too-long h) = omega arith
-fault-some (Refusals.too-deep h) = omega arith
-fault-some (Refusals.not-grammar h) = omega arith
-fault-some (Refusals.number-over f h k) = omega arith
-fault-some (Refusals.exponent-number-over f h k) = omega arith
-fault-some (Refusals.exponent-over f h k) = omega arith
-fault-some (Refusals.too-many f h) = omega arith
-fault-some (Refusals.x-in-base f h k) = omega arith
-fault-some (Refusals.even-base f h k) = omega arith
-
 -- A part that is put back as it was leaves the plan as it was.
 part-back : (i n : ℕ) (l : List ℕ) → partPut i n l (part i n l) ≡ l
 part-back i n l = ap (λ f. take i l ++ f) (take-append-drop (n - i) (drop i l)) ∙ take-append-drop i l
@@ -104,7 +93,7 @@ module _ (s p : List ℕ) (long : 2561 ≤ length p) where
       → (t : Tree) × Accepted 64 s t × Written (partPut 2304 2561 p lent) t
       × (drop 2561 (partPut 2304 2561 p lent) ≡ drop 2561 p) × (length (partPut 2304 2561 p lent) ≡ length p)
   read-accepted (Refusals.too-short h) none = absurd (omega (arith, length-part 2304 2561 p (omega arith) long))
-  read-accepted (Refusals.refused h R) none = absurd (omega (arith, none, fault-some (R .applies)))
+  read-accepted (Refusals.refused h R) none = absurd (omega (arith, none, fault-number (R .applies)))
   read-accepted (Refusals.accepted {t} h A) none = (t, A, put-there p long new count ∙ only, put-behind p long new count, put-length p long new count)
     where
       new : List ℕ

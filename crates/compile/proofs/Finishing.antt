@@ -9,10 +9,8 @@ use lib.ListN.{length}
 use Rattle.formula.specs.Tree as Tree
 use Rattle.formula.specs.Tree.{Tree, nodes}
 use Rattle.formula.specs.Words.{nodeWords}
-use Rattle.formula.specs.Refusals.{Part, itself, sum-left, sum-right, difference-left, difference-right, product-left, product-right, under-minus, under-power, in-base, in-exponent}
-use Rattle.folding.specs.Folding.{fold}
-use Rattle.folding.specs.Shape.{WellFormed}
-use Rattle.folding.proofs.FoldShape.{Foldable, foldable-part, fold-formed}
+use Rattle.formula.specs.Refusals.{Part, itself, sum-left, sum-right, difference-left, difference-right}
+use Rattle.formula.specs.Refusals.{product-left, product-right, under-minus, under-power, in-base, in-exponent}
 use Rattle.compile.specs.Machine.{Finishes, finished, number, variable, sum, difference, product, minus, power, raise}
 
 -- ---- the words of a whole tree
@@ -66,10 +64,6 @@ finishes-part (raise place h) = let k = finishes-part h in (part-part (in-expone
 pub top-part : {t u : Tree} {done : List Tree} {words : List ℕ} → Finishes t (u ∷ done) words → Part u t
 unfolding AllParts
 top-part h = finishes-part h .0
-
-pub top-formed : {t u : Tree} {done : List Tree} {words : List ℕ} (start step : ℕ) → Foldable 64 t → Finishes t (u ∷ done) words
-    → WellFormed 64 (fold 64 start step u)
-top-formed {u = u} start step good h = fold-formed 64 start step (omega arith) u (foldable-part (λ a k. part-part k (top-part h)) good)
 
 -- ---- the next node
 -- What a node of two operands does.

@@ -1,4 +1,5 @@
 -- Laws of compiling.
+pub mod Finding
 pub mod Finishing
 pub mod Stacking
 pub mod Promise

@@ -1,27 +1,27 @@
 -- One node folded: the finished operands that it takes, and that the machine is then at the next node.
-use mathlib.Core.Path.{_≡_, refl, sym, ap, ap₂, subst, _∙_}
+use mathlib.Core.Path.{_≡_, refl, sym, ap, ap₂, subst}
 use mathlib.Core.Bool.{Bool, true, false}
 use mathlib.Core.List.{List, [], _∷_}
-use Prim.Native.Nat.{ℕ, _+_, _-_, _%_, _^_, _≤_, _<_}
+use Prim.Native.Nat.{ℕ, _+_, _%_, _^_, _≤_, _<_}
 use native.Mathlib.Nat.{mod-eq-of-lt}
 use native.Mathlib.Omega.{arith}
 use lib.Dec.{eqb}
-use lib.ListN.{length, getD, drop, set}
+use lib.ListN.{length, drop}
 use borrow.Author.Tests.{eqb-true, eqb-false}
 use Rattle.chain.specs.Chain.{trimmed, withoutTrailing, withLast, words}
 use Rattle.formula.specs.Tree as Tree
 use Rattle.formula.specs.Tree.{Tree}
 use Rattle.folding.specs.Folded.{Folded, constant, ofSum, trimmedSum}
 use Rattle.folding.specs.Folding.{fold, foldMinus, foldPower}
-use Rattle.folding.specs.Layout.{rowCount, rowsFrom, wordsOf}
+use Rattle.folding.specs.Layout.{rowCount}
 use Rattle.folding.specs.Shape.{WellFormed}
 use Rattle.folding.proofs.FoldShape.{minus-rows, power-rows, sum-rows, difference-rows, product-rows, raise-rows}
 use Rattle.rows.specs.Standing.{rowStart, placed}
-use Rattle.rows.proofs.Stood.{length-words, words-later}
-use Rattle.operators.specs.Operands.{Operand, Operands, One, Two, Left, Folds, FoldsBoth}
-use Rattle.compile.specs.Machine.{Finishes, Stack, Compilable, Working, foldBoth}
-use Rattle.compile.proofs.Finishing.{top-part, view-number, view-variable, view-minus, view-power, view-sum, view-difference, view-product, view-raise, nodes-left, node-kind}
-use Rattle.compile.proofs.Stacking.{left-behind, left-end-one, left-end-both, stack-depth, stack-rows, stack-one, stack-both, stack-push, stack-left-one, stack-left-both}
+use Rattle.operands.specs.Operands.{Operand, Operands, One, Two, Left, Folds, FoldsBoth}
+use Rattle.compile.specs.Machine.{Finishes, Stack, Ends, FirstRow, Compilable, Working, foldBoth}
+use Rattle.compile.proofs.Finishing.{top-part, nodes-left, node-kind}
+use Rattle.compile.proofs.Finishing.{view-number, view-variable, view-minus, view-power, view-sum, view-difference, view-product, view-raise}
+use Rattle.compile.proofs.Stacking.{left-behind, left-end-one, left-end-both, stack-rows, stack-ends, stack-one, stack-both, stack-put}
 
 -- A number is its own chain, and x that of the grid.
 pair-number : (v : ℕ) → v < 2 ^ 64 → trimmedSum (v ∷ 0 ∷ []) ≡ constant (v % 2 ^ 64)
@@ -43,127 +43,92 @@ one-row [] = refl
 one-row (a ∷ []) = refl
 one-row (a ∷ b ∷ f) = refl
 
-module _ (start step : ℕ) (p starts : List ℕ) (depth end : ℕ) (long : 2561 ≤ length p) where
-  -- There is room for one row more.
-  module _ {t : Tree} {more : List ℕ} {k v : ℕ} (comp : Compilable start step t) (work : Working t start step p starts depth end (k ∷ v ∷ more)) where
-    pub few-rows : (end < 128) × (depth ≤ end)
-    few-rows = (
-      omega (arith, stack-rows start step p starts (work .done) depth end (work .stands), nodes-left (work .finishes), comp .few),
-      stack-depth start step p starts (work .done) depth end (work .stands) .1,
-    )
+module _ (start step : ℕ) (p : List ℕ) (end : ℕ) (long : 2561 ≤ length p) where
+  module _ {t : Tree} {more : List ℕ} {k v : ℕ} (comp : Compilable start step t) (work : Working t start step p end (k ∷ v ∷ more)) where
+    -- There is room for one row more.
+    pub few-rows : end < 128
+    few-rows = omega (arith, stack-rows start step p (work .done) end (work .stands), nodes-left (work .finishes), comp .few)
 
     room : rowStart end ≤ length p
     room = omega (arith, few-rows)
 
-    -- ---- a number or x
-    module _ {q after : List ℕ} (u : Tree) (f : Folded) (same : f ≡ fold 64 start step u) (one : rowCount (fold 64 start step u) ≡ 1)
-        (fin : Finishes t (u ∷ work .done) more) (here : depth < length starts) (noted : after ≡ set starts depth end) (put : q ≡ placed p end f) where
-      pushed : Working t start step q after (depth + 1) (end + 1) more
-      pushed = record {
-        done = u ∷ work .done;
-        stands =
-            subst (λ l. Stack start step q l (u ∷ work .done) (depth + 1) (end + 1)) (sym noted)
-            (stack-push start step p q starts u (work .done) depth end (work .stands) room here (comp .formed u (top-part fin)) one
-            (put ∙ ap (placed p end) same));
-        finishes = fin;
-      }
+    abbrev Next : List ℕ → ℕ → Type 0
+    Next q r = Working t start step q r more × ((i : ℕ) → rowStart (end + 1) ≤ i → drop i q ≡ drop i p)
 
-      behind : (i : ℕ) → rowStart (end + 1) ≤ i → drop i q ≡ drop i p
-      behind i h =
-          ap (drop i) (put ∙ ap (placed p end) same)
-          ∙ words-later p (rowStart end) (wordsOf (rowsFrom end (fold 64 start step u))) room i
-          (omega (arith, length-words end (fold 64 start step u), one))
-
-    pub number-pushed : {q after : List ℕ} → k ≡ 0 → depth < length starts → after ≡ set starts depth end → q ≡ placed p end (trimmedSum (v ∷ 0 ∷ []))
-        → Working t start step q after (depth + 1) (end + 1) more × ((i : ℕ) → rowStart (end + 1) ≤ i → drop i q ≡ drop i p)
-    unfolding fold rowCount
-    number-pushed e here noted put =
-        let seen = view-number (work .finishes) e in
-        let u = Tree.number (seen .0) v in
-        let same = pair-number v (comp .numbers (seen .0) v (top-part (seen .1))) in
-        (pushed u (trimmedSum (v ∷ 0 ∷ [])) same refl (seen .1) here noted put, behind u (trimmedSum (v ∷ 0 ∷ [])) same refl (seen .1) here noted put)
-
-    pub variable-pushed : {q after : List ℕ} → k ≡ 1 → start < 2 ^ 64 → step < 2 ^ 64 → depth < length starts → after ≡ set starts depth end
-        → q ≡ placed p end (trimmedSum (start ∷ step ∷ []))
-        → Working t start step q after (depth + 1) (end + 1) more × ((i : ℕ) → rowStart (end + 1) ≤ i → drop i q ≡ drop i p)
-    unfolding fold
-    variable-pushed e hs ht here noted put =
-        let fin = view-variable (work .finishes) e in
-        let f = trimmedSum (start ∷ step ∷ []) in
-        let same = pair-words start step hs ht in
-        let one = one-row (trimmed 0 (words 64 (start ∷ step ∷ []))) in
-        (pushed Tree.variable f same one fin here noted put, behind Tree.variable f same one fin here noted put)
-
-    -- ---- an operator of one operand
-    module _ {q : List ℕ} {r : ℕ} (a u : Tree) (rest : List Tree) (is : work .done ≡ a ∷ rest) (operator : Folded → Folded)
-        (same : fold 64 start step u ≡ operator (fold 64 start step a))
-        (rows : rowCount (operator (fold 64 start step a)) ≤ rowCount (fold 64 start step a) + 1)
-        (fin : Finishes t (u ∷ rest) more) (folds : Folds operator p (getD starts (depth - 1) 0) end r q) where
-      stack : Stack start step p starts (a ∷ rest) depth end
-      stack = subst (λ done. Stack start step p starts done depth end) is (work .stands)
-
-      operand : Operand p (getD starts (depth - 1) 0) end (fold 64 start step a)
-      operand = stack-one start step p starts a rest depth end stack .1
-
-      left : Left p (getD starts (depth - 1) 0) (operator (fold 64 start step a)) r q
-      left = folds (fold 64 start step a) operand
-
-      one-folded : Working t start step q starts depth r more × ((i : ℕ) → rowStart (end + 1) ≤ i → drop i q ≡ drop i p)
-      one-folded = (
+    -- ---- what the node leaves behind the trees that stay
+    module _ {q : List ℕ} {n r : ℕ} (u : Tree) (rest : List Tree) (f : Folded) (stays : Stack start step p rest n) (fin : Finishes t (u ∷ rest) more)
+        (same : fold 64 start step u ≡ f) (left : Left p n f r q) (within : n ≤ end) (most : r ≤ end + 1) where
+      next : Next q r
+      next = (
         record {
           done = u ∷ rest;
           stands =
-              stack-left-one start step p q starts a u rest depth end r (operator (fold 64 start step a)) stack room same
-              (subst (WellFormed 64) same (comp .formed u (top-part fin))) left;
+              stack-put start step p q u rest n r f stays (omega (arith, room)) same (subst (WellFormed 64) same (comp .formed u (top-part fin))) left;
           finishes = fin;
         },
-        λ i h. left-behind left (omega (arith, room, operand .behind)) i (omega (arith, left-end-one left operand rows)),
+        λ i h. left-behind left (omega (arith, room)) i (omega arith),
       )
 
-    pub minus-folded : {q : List ℕ} {r : ℕ} → k ≡ 6 → Folds (foldMinus 64) p (getD starts (depth - 1) 0) end r q
-        → Working t start step q starts depth r more × ((i : ℕ) → rowStart (end + 1) ≤ i → drop i q ≡ drop i p)
-    unfolding fold
-    minus-folded e folds =
-        let seen = view-minus (work .finishes) e in
-        one-folded (seen .0) (Tree.minus (seen .0)) (seen .1) (seen .2) (foldMinus 64) refl (minus-rows 64 (fold 64 start step (seen .0))) (seen .3) folds
+    -- ---- a number or x
+    pushed : {q : List ℕ} (u : Tree) (f : Folded) → fold 64 start step u ≡ f → rowCount f ≡ 1 → Finishes t (u ∷ work .done) more
+        → q ≡ placed p end f → Next q (end + 1)
+    pushed u f same one fin put =
+        next u (work .done) f (work .stands) fin same (record { words = put; behind = omega (arith, one) }) (omega arith) (omega arith)
 
-    pub power-folded : {q : List ℕ} {r : ℕ} → k ≡ 7 → Folds (λ a. foldPower 64 a v) p (getD starts (depth - 1) 0) end r q
-        → Working t start step q starts depth r more × ((i : ℕ) → rowStart (end + 1) ≤ i → drop i q ≡ drop i p)
+    pub number-pushed : {q : List ℕ} → k ≡ 0 → q ≡ placed p end (trimmedSum (v ∷ 0 ∷ [])) → Next q (end + 1)
     unfolding fold
-    power-folded e folds =
-        let seen = view-power (work .finishes) e in
-        let a = seen .1 in
-        one-folded a (Tree.literalPower a (seen .0) v) (seen .2) (seen .3) (λ a. foldPower 64 a v) refl (power-rows 64 (fold 64 start step a) v)
-        (seen .4) folds
+    number-pushed e put =
+        let seen = view-number (work .finishes) e in
+        pushed (Tree.number (seen .0) v) (trimmedSum (v ∷ 0 ∷ [])) (sym (pair-number v (comp .numbers (seen .0) v (top-part (seen .1)))))
+        (one-row (trimmed 0 (v ∷ 0 ∷ []))) (seen .1) put
+
+    pub variable-pushed : {q : List ℕ} → k ≡ 1 → start < 2 ^ 64 → step < 2 ^ 64 → q ≡ placed p end (trimmedSum (start ∷ step ∷ [])) → Next q (end + 1)
+    unfolding fold
+    variable-pushed e hs ht put =
+        pushed Tree.variable (trimmedSum (start ∷ step ∷ [])) (sym (pair-words start step hs ht)) (one-row (trimmed 0 (start ∷ step ∷ [])))
+        (view-variable (work .finishes) e) put
+
+    -- ---- an operator of one operand, which begins at row `top`
+    module _ {top : ℕ} (found : FirstRow p end top) where
+      abbrev OnTop : Tree → List Tree → Type 0
+      OnTop a rest = Operand p top end (fold 64 start step a) × Stack start step p rest top
+
+      on-top : (a : Tree) (rest : List Tree) → work .done ≡ a ∷ rest → OnTop a rest
+      on-top a rest is = stack-one start step p a rest top end found (subst (λ done. Stack start step p done end) is (work .stands))
+
+      one-folded : {q : List ℕ} {r : ℕ} (a u : Tree) (rest : List Tree) (operator : Folded → Folded) → work .done ≡ a ∷ rest
+          → fold 64 start step u ≡ operator (fold 64 start step a)
+          → rowCount (operator (fold 64 start step a)) ≤ rowCount (fold 64 start step a) + 1
+          → Finishes t (u ∷ rest) more → Folds operator p top end r q → Next q r
+      one-folded a u rest operator is same rows fin folds =
+          let (operand, stays) = on-top a rest is in
+          let left = folds (fold 64 start step a) operand in
+          next u rest (operator (fold 64 start step a)) stays fin same left (omega (arith, operand .behind)) (left-end-one left operand rows)
+
+      pub minus-folded : {q : List ℕ} {r : ℕ} → k ≡ 6 → Folds (foldMinus 64) p top end r q → Next q r
+      unfolding fold
+      minus-folded e folds =
+          let (a, rest, is, fin) = view-minus (work .finishes) e in
+          one-folded a (Tree.minus a) rest (foldMinus 64) is refl (minus-rows 64 (fold 64 start step a)) fin folds
+
+      pub power-folded : {q : List ℕ} {r : ℕ} → k ≡ 7 → Folds (λ a. foldPower 64 a v) p top end r q → Next q r
+      unfolding fold
+      power-folded e folds =
+          let (place, a, rest, is, fin) = view-power (work .finishes) e in
+          one-folded a (Tree.literalPower a place v) rest (λ a. foldPower 64 a v) is refl (power-rows 64 (fold 64 start step a) v) fin folds
+
+      -- What these operators ask for.
+      pub minus-asked : k ≡ 6 → One p top end
+      minus-asked e =
+          let (a, rest, is, fin) = view-minus (work .finishes) e in
+          (fold 64 start step a, on-top a rest is .0)
+
+      pub power-asked : k ≡ 7 → One p top end × (v ≤ 64)
+      power-asked e =
+          let (place, a, rest, is, fin) = view-power (work .finishes) e in
+          ((fold 64 start step a, on-top a rest is .0), comp .exponents a place v (top-part fin))
 
     -- ---- an operator of two operands
-    module _ {q : List ℕ} {r : ℕ} (a b u : Tree) (rest : List Tree) (is : work .done ≡ b ∷ a ∷ rest) (operator : Folded → Folded → Folded)
-        (same : fold 64 start step u ≡ operator (fold 64 start step a) (fold 64 start step b))
-        (rows : rowCount (operator (fold 64 start step a) (fold 64 start step b)) ≤ rowCount (fold 64 start step a) + rowCount (fold 64 start step b) + 1)
-        (fin : Finishes t (u ∷ rest) more)
-        (folds : FoldsBoth operator p (getD starts (depth - 2) 0) (getD starts (depth - 1) 0) end r q) where
-      pair : Stack start step p starts (b ∷ a ∷ rest) depth end
-      pair = subst (λ done. Stack start step p starts done depth end) is (work .stands)
-
-      operands : Operands p (getD starts (depth - 2) 0) (getD starts (depth - 1) 0) end (fold 64 start step a) (fold 64 start step b)
-      operands = stack-both start step p starts a b rest depth end pair .1
-
-      both : Left p (getD starts (depth - 2) 0) (operator (fold 64 start step a) (fold 64 start step b)) r q
-      both = folds (fold 64 start step a) (fold 64 start step b) operands
-
-      both-folded : Working t start step q starts (depth - 1) r more × ((i : ℕ) → rowStart (end + 1) ≤ i → drop i q ≡ drop i p)
-      both-folded = (
-        record {
-          done = u ∷ rest;
-          stands =
-              stack-left-both start step p q starts a b u rest depth end r (operator (fold 64 start step a) (fold 64 start step b)) pair room same
-              (subst (WellFormed 64) same (comp .formed u (top-part fin))) both;
-          finishes = fin;
-        },
-        λ i h.
-            left-behind both (omega (arith, room, operands .first .behind, operands .second .behind)) i (omega (arith, left-end-both both operands rows)),
-      )
-
     -- A node that is none of the others has two operands.
     Both : Type 0
     Both = (a : Tree) × (b : Tree) × (u : Tree) × (rest : List Tree) × (work .done ≡ b ∷ a ∷ rest)
@@ -246,43 +211,47 @@ module _ (start step : ℕ) (p starts : List ℕ) (depth end : ℕ) (long : 2561
             as-raise (only-eight k (past-four k no0 no1 (node-kind (work .finishes) .1) (eqb-false k 3 e3)) (node-kind (work .finishes) .0)
             (eqb-false k 4 e4) (eqb-false k 5 e5) no6 no7)
 
-    pub both-done : {q : List ℕ} {r : ℕ} → (k ≡ 0 → ⊥) → (k ≡ 1 → ⊥) → (k ≡ 6 → ⊥) → (k ≡ 7 → ⊥)
-        → FoldsBoth (foldBoth k) p (getD starts (depth - 2) 0) (getD starts (depth - 1) 0) end r q
-        → Working t start step q starts (depth - 1) r more × ((i : ℕ) → rowStart (end + 1) ≤ i → drop i q ≡ drop i p)
-    unfolding Both
-    both-done no0 no1 no6 no7 folds =
-        let b = two-operands no0 no1 no6 no7 in
-        both-folded (b .0) (b .1) (b .2) (b .3) (b .4) (foldBoth k) (b .5) (b .6) (b .7) folds
+    module _ {top : ℕ} (found : FirstRow p end top) (no0 : k ≡ 0 → ⊥) (no1 : k ≡ 1 → ⊥) (no6 : k ≡ 6 → ⊥) (no7 : k ≡ 7 → ⊥) where
+      -- The left operand ends where the right one begins.
+      pub below-asked : (top ≤ 128) × Ends p top
+      unfolding Both
+      below-asked =
+          let b = two-operands no0 no1 no6 no7 in
+          let (operand, stays) = on-top found (b .1) (b .0 ∷ b .3) (b .4) in
+          (omega (arith, operand .behind, few-rows), stack-ends start step p (b .0) (b .3) top stays)
 
-    -- What the operators ask for.
-    pub both-asked : (k ≡ 0 → ⊥) → (k ≡ 1 → ⊥) → (k ≡ 6 → ⊥) → (k ≡ 7 → ⊥)
-        → (2 ≤ depth) × Two p (getD starts (depth - 2) 0) (getD starts (depth - 1) 0) end
-    unfolding Both
-    both-asked no0 no1 no6 no7 =
-        let b = two-operands no0 no1 no6 no7 in
-        let pair = subst (λ done. Stack start step p starts done depth end) (b .4) (work .stands) in
-        let found = stack-both start step p starts (b .0) (b .1) (b .3) depth end pair in
-        (found .0, (fold 64 start step (b .0), fold 64 start step (b .1), found .1))
+      module _ {below : ℕ} (foundBelow : FirstRow p top below) where
+        both : (a b : Tree) (rest : List Tree) → work .done ≡ b ∷ a ∷ rest
+            → Operands p below top end (fold 64 start step a) (fold 64 start step b) × Stack start step p rest below
+        both a b rest is =
+            stack-both start step p a b rest below top end found foundBelow (subst (λ done. Stack start step p done end) is (work .stands))
 
-    asked-one : (a : Tree) (rest : List Tree) → work .done ≡ a ∷ rest → (1 ≤ depth) × One p (getD starts (depth - 1) 0) end
-    asked-one a rest is =
-        let found = stack-one start step p starts a rest depth end (subst (λ done. Stack start step p starts done depth end) is (work .stands)) in
-        (found .0, (fold 64 start step a, found .1))
+        pub both-asked : Two p below top end
+        unfolding Both
+        both-asked =
+            let b = two-operands no0 no1 no6 no7 in
+            (fold 64 start step (b .0), fold 64 start step (b .1), both (b .0) (b .1) (b .3) (b .4) .0)
 
-    pub minus-asked : k ≡ 6 → (1 ≤ depth) × One p (getD starts (depth - 1) 0) end
-    minus-asked e = let seen = view-minus (work .finishes) e in asked-one (seen .0) (seen .1) (seen .2)
-
-    pub power-asked : k ≡ 7 → (1 ≤ depth) × One p (getD starts (depth - 1) 0) end × (v ≤ 64)
-    power-asked e =
-        let seen = view-power (work .finishes) e in
-        let one = asked-one (seen .1) (seen .2) (seen .3) in
-        (one .0, one .1, comp .exponents (seen .1) (seen .0) v (top-part (seen .4)))
+        pub both-folded : {q : List ℕ} {r : ℕ} → FoldsBoth (foldBoth k) p below top end r q → Next q r
+        unfolding Both
+        both-folded folds =
+            let (a, b, u, rest, is, same, rows, fin) = two-operands no0 no1 no6 no7 in
+            let (operands, stays) = both a b rest is in
+            let left = folds (fold 64 start step a) (fold 64 start step b) operands in
+            next u rest (foldBoth k (fold 64 start step a) (fold 64 start step b)) stays fin same left
+            (omega (arith, operands .first .behind, operands .second .behind)) (left-end-both left operands rows)
 
     -- Whatever operator it is, an operand stands.
-    pub some-asked : (k ≡ 0 → ⊥) → (k ≡ 1 → ⊥) → 1 ≤ depth
-    some-asked no0 no1 = among (eqb k 6) (eqb k 7) refl refl
+    pub top-asked : (k ≡ 0 → ⊥) → (k ≡ 1 → ⊥) → Ends p end
+    unfolding Both
+    top-asked no0 no1 = among (eqb k 6) (eqb k 7) refl refl
       where
-        among : (minus power : Bool) → eqb k 6 ≡ minus → eqb k 7 ≡ power → 1 ≤ depth
-        among true power e6 e7 = minus-asked (eqb-true k 6 e6) .0
-        among false true e6 e7 = power-asked (eqb-true k 7 e7) .0
-        among false false e6 e7 = omega (arith, both-asked no0 no1 (eqb-false k 6 e6) (eqb-false k 7 e7) .0)
+        ends : (a : Tree) (rest : List Tree) → work .done ≡ a ∷ rest → Ends p end
+        ends a rest is = stack-ends start step p a rest end (subst (λ done. Stack start step p done end) is (work .stands))
+
+        among : (minus power : Bool) → eqb k 6 ≡ minus → eqb k 7 ≡ power → Ends p end
+        among true power e6 e7 = let seen = view-minus (work .finishes) (eqb-true k 6 e6) in ends (seen .0) (seen .1) (seen .2)
+        among false true e6 e7 = let seen = view-power (work .finishes) (eqb-true k 7 e7) in ends (seen .1) (seen .2) (seen .3)
+        among false false e6 e7 =
+            let b = two-operands no0 no1 (eqb-false k 6 e6) (eqb-false k 7 e7) in
+            ends (b .1) (b .0 ∷ b .3) (b .4)

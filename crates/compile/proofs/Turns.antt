@@ -14,9 +14,9 @@ use Rattle.compile.proofs.Finishing.{finishes-all, nodes-left, none-lef
 use Rattle.compile.proofs.Stacking.{stack-rows, stack-done}
 
 -- After n nodes: the node words left stand in the plan from word 2305 + 2n on.
-pub record Turn (t : Tree) (start step : ℕ) (p₀ p starts : List ℕ) (depth end n : ℕ) : Type 0 where
+pub record Turn (t : Tree) (start step : ℕ) (p₀ p : List ℕ) (end n : ℕ) : Type 0 where
   pub words : List ℕ
-  pub work : Working t start step p starts depth end words
+  pub work : Working t start step p end words
   pub left : take (length words) (drop (2305 + 2 * n) p) ≡ words
   pub size : length words + 2 * n ≡ 2 * nodes t
   pub behind : drop 2561 p ≡ drop 2561 p₀
@@ -34,11 +34,11 @@ module _ (start step : ℕ) (t : Tree) (comp : Compilable start step t) where
   node-count : length (nodeWords t) ≤ 256
   node-count = omega (arith, nodes-words t, comp .few)
 
-  pub turn-first : (p starts : List ℕ) → Written p t → Turn t start step p p starts 0 0 0
+  pub turn-first : (p : List ℕ) → Written p t → Turn t start step p p 0 0
   unfolding Stack
-  turn-first p starts e = record {
+  turn-first p e = record {
     words = nodeWords t;
-    work = record { done = []; stands = (refl, refl); finishes = finishes-all t };
+    work = record { done = []; stands = refl; finishes = finishes-all t };
     left =
         sym (take-take (length (nodeWords t)) 256 (drop 2305 p) node-count)
         ∙ ap (λ l. take (length (nodeWords t)) (take 256 l)) (sym (drop-drop 1 2304 p))
@@ -60,11 +60,11 @@ module _ (start step : ℕ) (t : Tree) (comp : Compilable start step t) where
       second : y ≡ getD l 1 0
       second = ap (λ f. getD f 1 0) (sym e) ∙ getD-take (length (x ∷ y ∷ more)) l 1 0 (omega arith)
 
-  module _ {p₀ p starts : List ℕ} {depth end n : ℕ} (turn : Turn t start step p₀ p starts depth end n) where
+  module _ {p₀ p : List ℕ} {end n : ℕ} (turn : Turn t start step p₀ p end n) where
     -- No more rows stand than nodes are read.
     pub rows-read : end ≤ n
     rows-read =
-        omega (arith, stack-rows start step p starts (turn .work .done) depth end (turn .work .stands), nodes-left (turn .work .finishes), turn .size)
+        omega (arith, stack-rows start step p (turn .work .done) end (turn .work .stands), nodes-left (turn .work .finishes), turn .size)
 
     module _ (some : n < nodes t) where
       place : List ℕ
@@ -81,15 +81,15 @@ module _ (start step : ℕ) (t : Tree) (comp : Compilable start step t) where
           ∙ ap₂ (λ k v. k ∷ v ∷ seen .0) (getD-drop (2305 + 2 * n) p 0 0 ∙ ap (λ i. getD p i 0) (add-zero (2305 + 2 * n)))
           (getD-drop (2305 + 2 * n) p 1 0)
 
-      at-work : Working t start step p starts depth end (getD p (2305 + 2 * n) 0 ∷ getD p (2305 + 2 * n + 1) 0 ∷ seen .0)
-      at-work = subst (Working t start step p starts depth end) read (turn .work)
+      at-work : Working t start step p end (getD p (2305 + 2 * n) 0 ∷ getD p (2305 + 2 * n + 1) 0 ∷ seen .0)
+      at-work = subst (Working t start step p end) read (turn .work)
 
-      pub turn-node : AtNode start step p starts depth end (getD p (2305 + 2 * n) 0) (getD p (2305 + 2 * n + 1) 0)
+      pub turn-node : AtNode start step p end (getD p (2305 + 2 * n) 0) (getD p (2305 + 2 * n + 1) 0)
       turn-node = (t, seen .0, comp, at-work)
 
-      pub turn-next : {q after : List ℕ} {depth′ end′ : ℕ}
-          → FoldsNode start step p starts depth end (getD p (2305 + 2 * n) 0) (getD p (2305 + 2 * n + 1) 0) q after depth′ end′
-          → Turn t start step p₀ q after depth′ end′ (n + 1)
+      pub turn-next : {q : List ℕ} {end′ : ℕ}
+          → FoldsNode start step p end (getD p (2305 + 2 * n) 0) (getD p (2305 + 2 * n + 1) 0) q end′
+          → Turn t start step p₀ q end′ (n + 1)
       turn-next folds =
           let done = folds t (seen .0) comp at-work in
           record {
@@ -116,7 +116,7 @@ module _ (start step : ℕ) (t : Tree) (comp : Compilable start step t) where
     -- ---- at the end
     pub turn-done : n ≡ nodes t → FoldedAt start step p₀ t p end
     turn-done all =
-        let found = stack-done start step p starts t depth end (subst (λ done. Stack start step p starts done depth end) one (turn .work .stands)) in
+        let found = stack-done start step p t end (subst (λ done. Stack start step p done end) one (turn .work .stands)) in
         record { rows = found .1; few = omega (arith, rows-read, comp .few); stands = found .0; behind = turn .behind }
       where
         nothing : (f : List ℕ) → length f ≡ 0 → f ≡ []

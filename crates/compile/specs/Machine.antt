@@ -2,9 +2,9 @@
 use mathlib.Core.Path.{_≡_}
 use mathlib.Core.Bool.{cond}
 use mathlib.Core.List.{List, [], _∷_}
-use Prim.Native.Nat.{ℕ, suc, _+_, _*_, _^_, _≤_, _<_}
+use Prim.Native.Nat.{ℕ, _+_, _*_, _^_, _≤_, _<_}
 use lib.Dec.{eqb}
-use lib.ListN.{getD, take, drop}
+use lib.ListN.{take, drop}
 use Rattle.formula.specs.Tree as Tree
 use Rattle.formula.specs.Tree.{Tree, nodes}
 use Rattle.formula.specs.Refusals.{Part}
@@ -14,7 +14,7 @@ use Rattle.folding.specs.Folding.{fold, foldSum, foldDifference, foldProduct, f
 use Rattle.folding.specs.Layout.{rowCount, rowsFrom, wordsOf}
 use Rattle.folding.specs.Shape.{WellFormed}
 use Rattle.rows.specs.Standing.{rowStart}
-use Rattle.operators.specs.Operands.{Operand}
+use Rattle.operands.specs.Operands.{Operand, One}
 
 -- `Finishes done words t`: with the trees `done` finished, the last one first, the node words left make the tree t. "two words a node in postfix
 -- order, left operand first": kind and word.
@@ -33,12 +33,17 @@ pub data Finishes (t : Tree) : List Tree → List ℕ → Type 0 where
   raise : {a b : Tree} {done : List Tree} {words : List ℕ} (place : ℕ)
       → Finishes t (Tree.raise a place b ∷ done) words → Finishes t (b ∷ a ∷ done) (8 ∷ 0 ∷ words)
 
--- The finished trees stand folded in the plan p up to row `end`; `starts` has the first row of each, `depth` of them.
-unfoldable pub Stack : ℕ → ℕ → List ℕ → List ℕ → List Tree → ℕ → ℕ → Type 0
-Stack start step p starts [] depth end = (depth ≡ 0) × (end ≡ 0)
-Stack start step p starts (a ∷ done) depth end =
-    (below : ℕ) × (depth ≡ suc below) × Operand p (getD starts below 0) end (fold 64 start step a)
-    × Stack start step p starts done below (getD starts below 0)
+-- The finished trees stand folded in the plan p, one behind the other, the last up to row `end`.
+unfoldable pub Stack : ℕ → ℕ → List ℕ → List Tree → ℕ → Type 0
+Stack start step p [] end = end ≡ 0
+Stack start step p (a ∷ done) end = (first : ℕ) × Operand p first end (fold 64 start step a) × Stack start step p done first
+
+-- Some operand ends before row `end`; r is its first row.
+abbrev pub Ends : List ℕ → ℕ → Type 0
+Ends p end = (first : ℕ) × One p first end
+
+abbrev pub FirstRow : List ℕ → ℕ → ℕ → Type 0
+FirstRow p end r = (first : ℕ) → One p first end → r ≡ first
 
 -- ---- the operators of two operands, by the kind of a node
 abbrev pub foldBoth : ℕ → Folded → Folded → Folded
@@ -57,21 +62,21 @@ pub record Compilable (start step : ℕ) (t : Tree) : Type 0 where
   pub few : nodes t ≤ 128
 
 -- Some trees are finished and stand in the plan, and the node words left make t of them.
-pub record Working (t : Tree) (start step : ℕ) (p starts : List ℕ) (depth end : ℕ) (words : List ℕ) : Type 0 where
+pub record Working (t : Tree) (start step : ℕ) (p : List ℕ) (end : ℕ) (words : List ℕ) : Type 0 where
   pub done : List Tree
-  pub stands : Stack start step p starts done depth end
+  pub stands : Stack start step p done end
   pub finishes : Finishes t done words
 
 -- The node of this kind and word comes next, on the way to some tree.
-abbrev pub AtNode : ℕ → ℕ → List ℕ → List ℕ → ℕ → ℕ → ℕ → ℕ → Type 0
-AtNode start step p starts depth end kind word =
-    (t : Tree) × (words : List ℕ) × Compilable start step t × Working t start step p starts depth end (kind ∷ word ∷ words)
+abbrev pub AtNode : ℕ → ℕ → List ℕ → ℕ → ℕ → ℕ → Type 0
+AtNode start step p end kind word =
+    (t : Tree) × (words : List ℕ) × Compilable start step t × Working t start step p end (kind ∷ word ∷ words)
 
 -- A step that folds the node, whichever tree it is on the way to.
-abbrev pub FoldsNode : ℕ → ℕ → List ℕ → List ℕ → ℕ → ℕ → ℕ → ℕ → List ℕ → List ℕ → ℕ → ℕ → Type 0
-FoldsNode start step p starts depth end kind word q starts′ depth′ end′ =
-    (t : Tree) (words : List ℕ) → Compilable start step t → Working t start step p starts depth end (kind ∷ word ∷ words)
-    → Working t start step q starts′ depth′ end′ words × ((i : ℕ) → rowStart (end + 1) ≤ i → drop i q ≡ drop i p)
+abbrev pub FoldsNode : ℕ → ℕ → List ℕ → ℕ → ℕ → ℕ → List ℕ → ℕ → Type 0
+FoldsNode start step p end kind word q end′ =
+    (t : Tree) (words : List ℕ) → Compilable start step t → Working t start step p end (kind ∷ word ∷ words)
+    → Working t start step q end′ words × ((i : ℕ) → rowStart (end + 1) ≤ i → drop i q ≡ drop i p)
 
 -- ---- the tree's words at the end of the plan, and the folded tree at its beginning
 abbrev pub Written : List ℕ → Tree → Type 0

@@ -2,21 +2,15 @@
 // end; a node is read before the rows reach it.
 ghost use mathlib.Core.Path.{_≡_};
 ghost use mathlib.Core.List.{[], _∷_, _++_};
-ghost use Prim.Native.Nat.{_+_, _-_, _≤_, _<_};
-ghost use lib.ListN.{length, set, take, drop, replicate};
+ghost use Prim.Native.Nat.{_≤_, _<_};
+ghost use lib.ListN.{length, drop};
 ghost use Rattle.folding.specs.Folded.{trimmedSum};
 ghost use Rattle.rows.specs.Standing.{placed};
-ghost use Rattle.operators.specs.Operands.{Two, FoldsBoth};
-ghost use Rattle.compile.specs.Machine.{foldBoth, AtNode, FoldsNode, Compilable, Written, FoldedAt};
+ghost use Rattle.operands.specs.Operands.{Two, FoldsBoth};
+ghost use Rattle.compile.specs.Machine.{foldBoth, Ends, FirstRow, AtNode, FoldsNode, Compilable, Written, FoldedAt};
 ghost use Rattle.formula.specs.Tree.{Tree};
 ghost use Rattle.folding.specs.Folding.{fold};
 ghost use Rattle.folding.specs.Layout.{planWords};
-
-// How many operands are finished, and the row behind the last of them.
-pub struct Reached {
-    pub depth: usize,
-    pub end: usize,
-}
 
 // The chain of two elements, trimmed, in row r: a number and 0, or x.
 fn put_pair(plan: &mut [u64], r: usize, first: u64, second: u64)
@@ -32,17 +26,6 @@ fn put_pair(plan: &mut [u64], r: usize, first: u64, second: u64)
     rows::put_chain(plan, r, 1, t.length, elements);
 }
 
-// Zeros from a place up to the plan's own end.
-fn clear(words: &mut [u64])
-    ensures { λ _. ⌜ now (words .exit) ≡ replicate (length (now (words .entry))) 0 ⌝ }
-{
-    let mut i = 0;
-    while i < words.len() {
-        words[i] = 0;
-        i += 1;
-    }
-}
-
 // The operator of two operands: + - * or a raise.
 fn fold_both(plan: &mut [u64], kind: u64, left: usize, middle: usize, end: usize) -> usize
     requires { ⌜ 2561 ≤ length (now plan) ⌝ }
@@ -51,131 +34,80 @@ fn fold_both(plan: &mut [u64], kind: u64, left: usize, middle: usize, end: usize
     ensures { λ r. ⌜ FoldsBoth (foldBoth kind) (now (plan .entry)) left middle end r (now (plan .exit)) ⌝ }
 {
     match kind {
-        3 => operators::fold_sum(plan, left, middle, end),
-        4 => operators::fold_difference(plan, left, middle, end),
-        5 => operators::fold_product(plan, left, middle, end),
-        _ => operators::fold_raise(plan, left, middle, end),
+        3 => fold_sums::fold_sum(plan, left, middle, end),
+        4 => fold_sums::fold_difference(plan, left, middle, end),
+        5 => fold_products::fold_product(plan, left, middle, end),
+        _ => fold_powers::fold_raise(plan, left, middle, end),
     }
 }
 
-// A number or x: one more finished operand.
-fn push(plan: &mut [u64], starts: &mut [u64], depth: usize, end: usize, first: u64, second: u64)
+// The first row of the operand that ends before row `end`: from its root down the left operands.
+fn first_row(plan: &[u64], end: usize) -> usize
     requires { ⌜ 2561 ≤ length (now plan) ⌝ }
-    requires { ⌜ depth < length (now starts) ⌝ }
-    requires { ⌜ end < 128 ⌝ }
-    ensures { λ _. ⌜ now (starts .exit) ≡ set (now (starts .entry)) depth end ⌝ }
-    ensures { λ _. ⌜ now (plan .exit) ≡ placed (now (plan .entry)) end (trimmedSum (first ∷ second ∷ [])) ⌝ }
+    requires { ⌜ end ≤ 128 ⌝ }
+    requires { ⌜ Ends (now plan) end ⌝ }
+    ensures { λ r. ⌜ FirstRow (now (plan .entry)) end r ⌝ }
 {
-    put_pair(plan, end, first, second);
-    starts[depth] = end as u64;
+    let mut r = end - 1;
+    while 2 < plan[1 + 20 * r] {
+        r = plan[1 + 20 * r + 1] as usize;
+    }
+    r
 }
 
-// One node: a number, x, or an operator on the operands that were finished last.
-fn fold_node(
-    plan: &mut [u64],
-    starts: &mut [u64],
-    at: Reached,
-    kind: u64,
-    word: u64,
-    start: u64,
-    step: u64,
-) -> Reached
+// One node: a number, x, or an operator on the operands that were finished last. Answers the row behind the last operand.
+fn fold_node(plan: &mut [u64], end: usize, kind: u64, word: u64, start: u64, step: u64) -> usize
     requires { ⌜ 2561 ≤ length (now plan) ⌝ }
-    requires { ⌜ length (now starts) ≡ 128 ⌝ }
-    requires { ⌜ AtNode start step (now plan) (now starts) (at .depth) (at .end) kind word ⌝ }
-    ensures { λ r. ⌜ FoldsNode start step (now (plan .entry)) (now (starts .entry)) (at .depth) (at .end) kind word (now (plan .exit)) (now (starts .exit)) (r .depth) (r .end) ⌝ }
+    requires { ⌜ AtNode start step (now plan) end kind word ⌝ }
+    ensures { λ r. ⌜ FoldsNode start step (now (plan .entry)) end kind word (now (plan .exit)) r ⌝ }
 {
-    let depth = at.depth;
-    let end = at.end;
     if kind == 0 {
-        push(plan, starts, depth, end, word, 0);
-        return Reached {
-            depth: depth + 1,
-            end: end + 1,
-        };
+        put_pair(plan, end, word, 0);
+        return end + 1;
     }
     if kind == 1 {
-        push(plan, starts, depth, end, start, step);
-        return Reached {
-            depth: depth + 1,
-            end: end + 1,
-        };
+        put_pair(plan, end, start, step);
+        return end + 1;
     }
-    let top = starts[depth - 1] as usize;
+    let top = first_row(plan, end);
     if kind == 6 {
-        let reached = operators::fold_minus(plan, top, end);
-        return Reached {
-            depth,
-            end: reached,
-        };
+        return fold_sums::fold_minus(plan, top, end);
     }
     if kind == 7 {
-        let reached = operators::fold_power(plan, top, end, word);
-        return Reached {
-            depth,
-            end: reached,
-        };
+        return fold_powers::fold_power(plan, top, end, word);
     }
-    let below = starts[depth - 2] as usize;
-    let reached = fold_both(plan, kind, below, top, end);
-    Reached {
-        depth: depth - 1,
-        end: reached,
-    }
+    let below = first_row(plan, top);
+    fold_both(plan, kind, below, top, end)
 }
 
 // All nodes of the tree whose words stand at the end of the plan. Answers the row behind the folded tree.
-fn fold_nodes(plan: &mut [u64], starts: &mut [u64], start: u64, step: u64) -> usize
+fn fold_nodes(plan: &mut [u64], start: u64, step: u64) -> usize
     requires { ⌜ 2561 ≤ length (now plan) ⌝ }
-    requires { ⌜ length (now starts) ≡ 128 ⌝ }
     requires { ⌜ ((t : Tree) × Compilable start step t × Written (now plan) t) ⌝ }
     ensures { λ r. ⌜ ((t : Tree) → Compilable start step t → Written (now (plan .entry)) t → FoldedAt start step (now (plan .entry)) t (now (plan .exit)) r) ⌝ }
 {
     let count = plan[2304] as usize;
-    let mut depth = 0;
     let mut end = 0;
     let mut n = 0;
     while n < count {
         let at = 2305 + 2 * n;
         let kind = plan[at];
         let word = plan[at + 1];
-        let next = fold_node(
-            plan,
-            starts,
-            Reached { depth, end },
-            kind,
-            word,
-            start,
-            step,
-        );
-        depth = next.depth;
-        end = next.end;
+        end = fold_node(plan, end, kind, word, start, step);
         n += 1;
     }
     end
 }
 
 // The plan of the folded tree, in all of the plan's own words.
-fn fold_with(plan: &mut [u64], starts: &mut [u64], start: u64, step: u64)
-    requires { ⌜ 2561 ≤ length (now plan) ⌝ }
-    requires { ⌜ length (now starts) ≡ 128 ⌝ }
-    requires { ⌜ ((t : Tree) × Compilable start step t × Written (now plan) t) ⌝ }
-    ensures { λ _. ⌜ ((t : Tree) → Compilable start step t → Written (now (plan .entry)) t
-        → now (plan .exit) ≡ planWords (fold 64 start step t) ++ drop 2561 (now (plan .entry))) ⌝ }
-{
-    let rows = fold_nodes(plan, starts, start, step);
-    plan[0] = rows as u64;
-    let behind = 1 + 20 * rows;
-    clear(&mut plan[behind..2561]);
-}
-
-// The same with the first rows of finished operands in the frame.
 pub fn fold_tree(plan: &mut [u64], start: u64, step: u64)
     requires { ⌜ 2561 ≤ length (now plan) ⌝ }
     requires { ⌜ ((t : Tree) × Compilable start step t × Written (now plan) t) ⌝ }
     ensures { λ _. ⌜ ((t : Tree) → Compilable start step t → Written (now (plan .entry)) t
         → now (plan .exit) ≡ planWords (fold 64 start step t) ++ drop 2561 (now (plan .entry))) ⌝ }
 {
-    let mut starts = [0; 128];
-    fold_with(plan, &mut starts, start, step);
+    let rows = fold_nodes(plan, start, step);
+    plan[0] = rows as u64;
+    let behind = 1 + 20 * rows;
+    word::clear(&mut plan[behind..2561]);
 }

@@ -3,6 +3,7 @@
 // ~1 in it is the number of the row before it. p is the two rows 0,0,0,3 and 1,1,0,5,2. @40,7,8 puts 7 and 8 in the words from 40 on.
 use crate::print;
 use crate::text;
+ghost use Prim.Native.Nat.{_≤_};
 
 // Puts a word, if there is such a place, and answers the next place.
 fn put(plan: &mut [u64], at: usize, word: u64) -> usize {
@@ -59,4 +60,30 @@ pub fn plant(token: &[u8], plan: &mut [u64]) {
         plan,
         start as usize,
     );
+}
+
+// Word i of the rows, unless it and those after it in its row are 0; the kind in any case.
+fn print_word(plan: &[u64], i: usize)
+    requires { ⌜ i ≤ 2560 ⌝ }
+{
+    let place = i % 20;
+    if place == 0 {
+        print::text(b" ");
+        print::number(print::word_at(plan, 1 + i));
+        return;
+    }
+    if print::is_all(plan, 1 + i, 21 + i - place, 0) {
+        return;
+    }
+    print::element(print::word_at(plan, 1 + i), place, 20);
+}
+
+pub fn print_rows(plan: &[u64], count: usize)
+    requires { ⌜ count ≤ 128 ⌝ }
+{
+    let mut i = 0;
+    while i < 20 * count {
+        print_word(plan, i);
+        i += 1;
+    }
 }

@@ -2,10 +2,14 @@
 // The cases are tables in a module for each subject; what they must answer is in the file `stdout`.
 mod chains;
 mod coefficients;
+mod compiles;
+mod compiling;
 mod documents;
 mod entries;
 mod fills;
+mod folds;
 mod formulas;
+mod grids;
 mod notation;
 mod plans;
 mod postfix;
@@ -31,4 +35,7 @@ fn main() {
     refusals::run();
     plans::run();
     fills::run();
+    compiles::run();
+    folds::run();
+    grids::run();
 }

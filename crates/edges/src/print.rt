@@ -198,10 +198,10 @@ fn tree(tree: &[u64]) {
     }
 }
 
-// The first word that a call may not write: 257, or 0 where it is refused.
-fn first_kept(refusal: u64) -> usize {
+// The first word that a call may not write: the one after its own, or 0 where it is refused.
+pub fn first_kept(refusal: u64, own: usize) -> usize {
     if refusal == 0 {
-        return 257;
+        return own;
     }
     0
 }
@@ -225,7 +225,12 @@ pub fn reading(name: &[u8], lent: &[u8], answer: formula::ReadAnswer, words: &[u
     if answer.number == 0 {
         tree(words);
     }
-    if is_all(words, first_kept(answer.number), words.len(), UNWRITTEN) {
+    if is_all(
+        words,
+        first_kept(answer.number, 257),
+        words.len(),
+        UNWRITTEN,
+    ) {
         text(b"kept\n");
     } else {
         text(b"changed\n");

@@ -1,6 +1,8 @@
 // A case of a plan: a line of the plan in the notation of `entries`, how many of its words are lent, and fillings. It is its name too.
 // #2560 lends 2,560 words, and 2,561 are lent where nothing is said. t10,15 asks for soundness and cost, fills a table of 10 words on a
-// budget of 15 and prints it all; the budget is 999 where it is left out. Repeats are those of `notation`.
+// budget of 15 and prints it all; the budget is 999 where it is left out. Repeats are those of `notation`. =x^3 compiles a formula, and
+// g5,2:x^3 does on a grid with start 5 and step 2.
+use crate::compiling;
 use crate::entries;
 use crate::notation;
 use crate::print;
@@ -8,7 +10,7 @@ use crate::text;
 ghost use Prim.Native.Nat.{_≤_};
 
 // The lesser of a number and the most that there can be.
-fn at_most(count: usize, most: usize) -> usize
+pub fn at_most(count: usize, most: usize) -> usize
     ensures { λ r. ⌜ r ≤ most ⌝ }
 {
     if most < count {
@@ -18,7 +20,7 @@ fn at_most(count: usize, most: usize) -> usize
 }
 
 // The sum of the words, each times its place counted from 1.
-fn checksum(words: &[u64]) -> u64 {
+pub fn checksum(words: &[u64]) -> u64 {
     let mut sum = 0;
     let mut i = 0;
     while i < words.len() {
@@ -28,36 +30,10 @@ fn checksum(words: &[u64]) -> u64 {
     sum
 }
 
-fn print_words(words: &[u64], count: usize) {
+pub fn print_words(words: &[u64], count: usize) {
     let mut i = 0;
     while i < count {
         print::element(print::word_at(words, i), i, count);
-        i += 1;
-    }
-}
-
-// Word i of the rows, unless it and those after it in its row are 0; the kind in any case.
-fn print_word(plan: &[u64], i: usize)
-    requires { ⌜ i ≤ 200 ⌝ }
-{
-    let place = i % 20;
-    if place == 0 {
-        print::text(b" ");
-        print::number(print::word_at(plan, 1 + i));
-        return;
-    }
-    if print::is_all(plan, 1 + i, 21 + i - place, 0) {
-        return;
-    }
-    print::element(print::word_at(plan, 1 + i), place, 20);
-}
-
-fn print_rows(plan: &[u64], count: usize)
-    requires { ⌜ count ≤ 10 ⌝ }
-{
-    let mut i = 0;
-    while i < 20 * count {
-        print_word(plan, i);
         i += 1;
     }
 }
@@ -71,7 +47,7 @@ fn print_lent(table: &[u64], points: usize, plan: &[u64]) {
     print::text(b" plan ");
     print::number(print::word_at(plan, 0));
     print::text(b":");
-    print_rows(plan, at_most(print::counted(plan), 10));
+    entries::print_rows(plan, at_most(print::counted(plan), 10));
     print::text(b" sum ");
     print::number(checksum(plan));
 }
@@ -107,6 +83,8 @@ fn step(token: &[u8], lent: usize, plan: &mut [u64], table: &mut [u64]) -> usize
         b'@' => entries::plant(token, plan),
         b't' => fill(token, lent, plan, table),
         b'p' => entries::pair(plan),
+        b'=' => compiling::plain(token, at_most(lent, plan.len()), plan),
+        b'g' => compiling::on_grid(token, at_most(lent, plan.len()), plan),
         _ => entries::add(token, plan),
     }
     lent

@@ -1,6 +1,7 @@
 // Tables of cases: a line each, a name and a body with a bar between them.
 // The kind of a table says what its bodies are: postfix text, three words for the probe, or how many words a formula is lent. A line of
-// plans has no bar.
+// plans or of a formula on grids has no bar.
+use crate::grids;
 use crate::notation;
 use crate::postfix;
 use crate::print;
@@ -9,7 +10,7 @@ use crate::text;
 ghost use Prim.Native.Nat.{_≤_};
 
 // A chain's answer, a chain's present value, its first 20 values; a reading, what was expected and a tolerance; a formula, whose name
-// is its text; or a plan and its fillings.
+// is its text; a plan, or a formula compiled to one, and its fillings; or a formula compiled and filled on every grid.
 pub enum Kind {
     Chain,
     Value,
@@ -17,6 +18,7 @@ pub enum Kind {
     Probe,
     Formula,
     Plan,
+    Grids,
 }
 
 pub fn each(kind: Kind, table: &[u8]) {
@@ -42,6 +44,7 @@ fn case(kind: Kind, line: &[u8]) {
         Kind::Probe => probe_case(name, body),
         Kind::Formula => formula_case(name, body),
         Kind::Plan => plan_case(line),
+        Kind::Grids => grids::each(line),
     }
 }
 

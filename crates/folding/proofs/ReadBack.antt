@@ -103,7 +103,7 @@ length-tree n a = length-words-of (rowsFrom n a) (rows-of n a .twenty) ∙ ap (�
 abbrev pub chainRow : ℕ → List ℕ → Row
 chainRow kind f = rowWords kind (length f - 1) 0 f
 
-take-row : (n : ℕ) (f : List ℕ) → length f ≤ n → take (length f) (Chain.row n f) ≡ f
+pub take-row : (n : ℕ) (f : List ℕ) → length f ≤ n → take (length f) (Chain.row n f) ≡ f
 unfolding Chain.row
 take-row n [] h = refl
 take-row zero (a ∷ f) h = absurd (not-suc-le-zero h)

@@ -16,7 +16,7 @@ use Rattle.folding.specs.Folded.{isConstant, isSumChain, isProductChain,
 use Rattle.folding.specs.Folding.{wordOf, is, constants, isSum, lengthOf, foldSum, foldMinus, foldDifference, foldProduct, foldPower, foldRaise, fold}
 
 -- What a test picks has a property if both have it, each where it is picked.
-picked : {A : Type 0} (P : A → Type 0) (t : Bool) {x y : A} → (t ≡ true → P x) → (t ≡ false → P y) → P (cond t x y)
+pub picked : {A : Type 0} (P : A → Type 0) (t : Bool) {x y : A} → (t ≡ true → P x) → (t ≡ false → P y) → P (cond t x y)
 picked P true first second = first refl
 picked P false first second = second refl
 

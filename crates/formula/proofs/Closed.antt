@@ -1,23 +1,18 @@
--- Closed texts, decided by computation: what they mean, or where they leave the grammar. Also for texts of 128 bytes and more it takes
--- no time to speak of.
+-- Closed texts, decided by computation: what they mean, or where they leave the grammar; and their answer. Also for texts of 1,024 bytes
+-- it takes no time to speak of.
 use mathlib.Core.Path.{_≡_, refl, sym}
 use mathlib.Core.Bool.{Bool, true, false, true≢false}
-use mathlib.Core.List.{List, [], _∷_, _++_}
+use mathlib.Core.List.{List, _∷_, _++_}
 use Prim.Native.Nat.{ℕ}
-use Prim.Native.String.{String}
-use Prim.Native.Char.{code}
 use lib.ListN.{replicate}
-use Rattle.formula.specs.Bytes.{openBracket, closeBracket, letterX}
-use Rattle.formula.specs.Tree.{Tree, number, variable, sum, difference, product, minus, literalPower, raise}
+use Rattle.formula.specs.Bytes.{bytes, openBracket, closeBracket, letterX}
+use Rattle.formula.specs.Tree.{Tree, number, variable, sum, difference, product, minus, literalPower, raise, nodes, holdsX}
 use Rattle.formula.specs.Grammar.{Formula}
 use Rattle.formula.specs.Refusals.{StopsAt}
 use Rattle.formula.specs.Scan.{byteOf, negatives, productWith, sumWith, closed, afterPower, afterAtom, afterDigit, afterLiteralDigit, beforeOperand, beforeExponent, step, Outcome, reads, stops, ended, ending, run, scanned}
+use Rattle.formula.specs.Readers.{parity, faulted}
+use Rattle.formula.specs.Verdict.{Verdict, refused, accepted, deepPlace, outcomeVerdict, verdict}
 use Rattle.formula.proofs.GrammarScan.{sound, stops-at}
-
--- The bytes of a quoted text.
-unfoldable pub bytes : String → List ℕ
-bytes String.[] = []
-bytes (String._∷_ c s) = code c ∷ bytes s
 
 -- What the scan makes of a text, unfolded all the way: name it on the `unfolding` line, and `refl` decides.
 unfoldable pub decides : List ℕ → Outcome
@@ -93,3 +88,25 @@ x-in-100-brackets = refl
 pub x-in-brackets-left-open : StopsAt (replicate 100 openBracket ++ letterX ∷ replicate 99 closeBracket) 200
 unfolding decides
 x-in-brackets-left-open = leaves _ _ refl
+
+-- ---- the whole answer
+-- The answer to a text, unfolded all the way: name it on the `unfolding` line, and `refl` decides.
+unfoldable pub judges : List ℕ → Verdict
+unfolding decides nodes holdsX parity faulted deepPlace outcomeVerdict verdict
+judges s = verdict s
+
+pub even-base-refused : verdict (bytes "2^(3)") ≡ refused 8 1
+unfolding judges
+even-base-refused = refl
+
+pub square-accepted : verdict (bytes "x^2") ≡ accepted (literalPower variable 1 2)
+unfolding judges
+square-accepted = refl
+
+pub brackets-33-refused : verdict (replicate 33 openBracket ++ letterX ∷ replicate 33 closeBracket) ≡ refused 3 32
+unfolding judges
+brackets-33-refused = refl
+
+pub bytes-1025-refused : verdict (replicate 1025 letterX) ≡ refused 2 1024
+unfolding judges
+bytes-1025-refused = refl

@@ -11,11 +11,11 @@ use Rattle.formula.specs.declared.readers.Found.{Found}
 use Rattle.formula.specs.Tree.{Tree, nodes}
 use Rattle.formula.specs.Words.{treeWords}
 use Rattle.formula.specs.Refusals.{TooDeep, Accepted}
-use Rattle.formula.specs.Readers.{faultCode, noFault, wrote, SumRead, Judged, refuses, accepts}
+use Rattle.formula.specs.Readers.{faultCode, noFault, code, wrote, SumRead, Judged, refuses, accepts}
 use Rattle.formula.proofs.Ways.{WholeBracket}
 use Rattle.formula.proofs.Judging.{whole-formula, formula-got, tree-put-back, tree-part}
 use Rattle.formula.proofs.Written.{tree-written}
-use Rattle.formula.proofs.Faults.{code, tree-refused, tree-accepted}
+use Rattle.formula.proofs.Faults.{tree-refused, tree-accepted}
 use Rattle.formula.proofs.Answers.{accepted-fits}
 
 -- ---- 5 to 8

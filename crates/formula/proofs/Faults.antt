@@ -14,7 +14,7 @@ use Rattle.formula.specs.Tree.{Tree, number, variable, sum, difference, 
 use Rattle.formula.specs.Grammar.{Formula}
 use Rattle.formula.specs.Value.{valueFor}
 use Rattle.formula.specs.Refusals.{TooDeep, Part, itself, sum-left, sum-right, difference-left, difference-right, product-left, product-right, under-minus, under-power, in-base, in-exponent, Fault, too-long, too-deep, not-grammar, number-over, exponent-number-over, exponent-over, too-many, x-in-base, even-base, Refused, Accepted}
-use Rattle.formula.specs.Readers.{parity, faultCode, noFault, numberFault, literalFault, baseFault, faulted}
+use Rattle.formula.specs.Readers.{parity, faultCode, noFault, numberFault, literalFault, baseFault, faulted, code}
 use Rattle.formula.proofs.GrammarScan.{unambiguous}
 use Rattle.formula.proofs.Places.{number-placed, placed-inside, raise-inside, literal-inside, base-left}
 use Rattle.formula.proofs.Ways.{parity-small}
@@ -114,9 +114,6 @@ module _ (w : ℕ) where
 -- ---- the code of a tree
 abbrev noted : Tree → ℕ
 noted t = faulted 64 t noFault
-
-abbrev pub code : Tree → ℕ
-code t = min (faulted 64 t noFault) (cond (ltb 128 (nodes t)) (faultCode 7 0) noFault)
 
 -- A base of which no fault is noted.
 good : (a : Tree) (p : ℕ) → faultCode 8 p < baseFault (holdsX a) (parity a) p → (holdsX a ≡ false) × (parity a ≡ 1)

@@ -7,7 +7,7 @@ use Prim.Native.Nat.{ℕ, _≤_, _<_}
 use native.Mathlib.Omega.{arith}
 use lib.Dec.{ltb}
 use lib.ListN.{length, getD, take, drop, set, replicate, length-replicate}
-use lib.Seq.{drop-length, drop-at, take-at}
+use lib.Seq.{drop-length, drop-at, take-at, length-take-le}
 use borrow.Author.Tests.{ltb-true, ltb-false}
 use Rattle.formula.specs.declared.readers.Found.{Found}
 use Rattle.formula.specs.declared.ReadAnswer.{ReadAnswer}
@@ -111,6 +111,11 @@ module _ (l : List ℕ) (f : ℕ) (out : List ℕ) (r : Found) (now : List ℕ) 
       go true e = let whole = got read e in reached whole (ltb (r .at) (length l)) refl
       go false e = absurd (clash (r .at) (lost read e bottom))
 
+-- The first 257 words, cleared, put back.
+pub tree-cleared : (lent zeros : List ℕ) → 257 ≤ length lent → zeros ≡ replicate (length (take 257 lent)) 0
+    → zeros ++ drop 257 lent ≡ replicate 257 0 ++ drop 257 lent
+tree-cleared lent zeros h e = ap (λ l. l ++ drop 257 lent) (e ∙ ap (λ n. replicate n 0) (length-take-le 257 lent h))
+
 -- What lies behind a part of a slice, put back.
 pub tree-put-back : (lent cleared part : List ℕ) (count : ℕ) → cleared ≡ replicate 257 0 ++ drop 257 lent
     → set (take 1 cleared ++ (part ++ drop 256 (drop 1 cleared))) 0 count ≡ count ∷ part ++ drop 257 lent
@@ -124,7 +129,7 @@ tree-part lent cleared e =
 
 -- ---- 4: not in the grammar
 module _ (l : List ℕ) (short : length l ≤ 1024) (flat : (q : ℕ) → TooDeep l q → ⊥) where
-  judged-stop : (p : ℕ) → scanned l ≡ stops p → Judged 64 l (record { number = 4; place = p })
+  pub judged-stop : (p : ℕ) → scanned l ≡ stops p → Judged 64 l (record { number = 4; place = p })
   judged-stop p e = refuses (record { applies = not-grammar (stops-at l p e); first = first })
     where
       first : (m q : ℕ) → Fault 64 l m q → (4 < m) ⊎ ((4 ≡ m) × (p ≤ q))
@@ -150,7 +155,7 @@ no-words : (s : List ℕ) → length s ≡ 0 → s ≡ []
 no-words [] e = refl
 no-words (a ∷ s) e = absurd (omega arith)
 
-fault-number : {w : ℕ} {s : List ℕ} {n p : ℕ} → Fault w s n p → 2 ≤ n
+pub fault-number : {w : ℕ} {s : List ℕ} {n p : ℕ} → Fault w s n p → 2 ≤ n
 fault-number (too-long h) = omega arith
 fault-number (too-deep d) = omega arith
 fault-number (not-grammar d) = omega arith

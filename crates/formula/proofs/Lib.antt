@@ -16,3 +16,4 @@ pub mod Parity
 pub mod Faults
 pub mod Answers
 pub mod Deciding
+pub mod Verdicts

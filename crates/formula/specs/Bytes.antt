@@ -1,6 +1,8 @@
--- The bytes that formulas are made of, and the value of digits.
+-- The bytes that formulas are made of, the bytes of a quoted text, and the value of digits.
 use mathlib.Core.List.{List, [], _∷_}
 use Prim.Native.Nat.{ℕ, _+_, _-_, _*_, _≤_}
+use Prim.Native.String.{String}
+use Prim.Native.Char.{code}
 
 abbrev pub openBracket : ℕ
 openBracket = 40
@@ -22,6 +24,11 @@ caret = 94
 
 abbrev pub letterX : ℕ
 letterX = 120
+
+-- The bytes of a quoted text.
+unfoldable pub bytes : String → List ℕ
+bytes String.[] = []
+bytes (String._∷_ c s) = code c ∷ bytes s
 
 -- 0 to 9 are the bytes 48 to 57.
 abbrev pub Digit : ℕ → Type 0

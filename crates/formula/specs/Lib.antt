@@ -1,5 +1,6 @@
 -- What the contracts of `formula` cite. A reader has to believe Tree, Grammar, Value, Words and Refusals; Scan and Readers are
--- the forms that the private readers' contracts go by, and proofs/ shows that they say what Grammar and Refusals say.
+-- the forms that the private readers' contracts go by, and Verdict is the answer as one function; proofs/ shows that they say what Grammar
+-- and Refusals say.
 pub mod Bytes
 pub mod Tree
 pub mod Grammar
@@ -8,3 +9,4 @@ pub mod Words
 pub mod Refusals
 pub mod Scan
 pub mod Readers
+pub mod Verdict

@@ -2,7 +2,7 @@
 -- the reader's state, so each contract says that there is one. Nobody has to believe this page; proofs/ ties it to the others.
 use mathlib.Core.Path.{_≡_}
 use mathlib.Core.Bool.{Bool, true, false, cond, _||_}
-use mathlib.Core.List.{List, [], _∷_}
+use mathlib.Core.List.{List}
 use Prim.Native.Nat.{ℕ, zero, suc, _+_, _-_, _*_, _/_, _%_, _^_, _≤_, _<_, min}
 use lib.Dec.{eqb, leb, ltb}
 use lib.ListN.{length, getD, drop, set}
@@ -55,6 +55,10 @@ faulted w (product a b) f = faulted w b (faulted w a f)
 faulted w (minus a) f = faulted w a f
 faulted w (literalPower a p n) f = min (faulted w a f) (literalFault w p n)
 faulted w (raise a p b) f = faulted w b (min (faulted w a f) (baseFault (holdsX a) (parity a) p))
+
+-- The least fault of a tree, refusal 7 for its count of nodes among them; `noFault` if there is none.
+abbrev pub code : Tree → ℕ
+code t = min (faulted 64 t noFault) (cond (ltb 128 (nodes t)) (faultCode 7 0) noFault)
 
 -- Node n, its kind and its word, put where there is room for it.
 abbrev pub put : List ℕ → ℕ → ℕ → ℕ → List ℕ

@@ -9,7 +9,7 @@ ghost use mathlib.Core.Bool.{cond};
 ghost use mathlib.Core.List.{_++_};
 ghost use Prim.Native.Nat.{ℕ, _≤_};
 ghost use lib.Dec.{ltb};
-ghost use lib.ListN.{length, drop, replicate};
+ghost use lib.ListN.{length, drop};
 ghost use Rattle.formula.specs.Tree.{Tree};
 ghost use Rattle.formula.specs.Words.{treeWords};
 ghost use Rattle.formula.specs.Refusals.{Accepted, Reading};
@@ -86,24 +86,12 @@ fn judged(text: &[u8], none: &mut [u64]) -> ReadAnswer
     }
 }
 
-// 0 in the first 257 words.
-fn clear(tree: &mut [u64])
-    requires { ⌜ 257 ≤ length (now tree) ⌝ }
-    ensures { λ _. ⌜ now (tree .exit) ≡ replicate 257 0 ++ drop 257 (now (tree .entry)) ⌝ }
-{
-    let mut i = 0;
-    while i < TREE_WORDS {
-        tree[i] = 0;
-        i += 1;
-    }
-}
-
 // The words of an accepted text's tree.
 fn write(text: &[u8], tree: &mut [u64])
     requires { ⌜ 257 ≤ length (now tree) ⌝ }
     ensures { λ _. ⌜ ((t : Tree) → Accepted 64 (now (text .entry)) t → now (tree .exit) ≡ treeWords t ++ drop 257 (now (tree .entry))) ⌝ }
 {
-    clear(tree);
+    word::clear(&mut tree[0..257]);
     let sum = readers::read_sum(text, &mut tree[1..257], 0, 0, NO_FAULT);
     tree[0] = sum.nodes as u64;
 }

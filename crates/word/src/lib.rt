@@ -1,6 +1,7 @@
-// Words modulo 2^64: the product and the power that the language's own operators leave undefined.
+// Words modulo 2^64: the product and the power that the language's own operators leave undefined, and lent words set to 0.
 // Sums and differences are the supplied `std::num` ones; chains and formulas live above.
 ghost use mathlib.Core.Path.{_≡_};
+ghost use lib.ListN.{length, replicate};
 ghost use Rattle.word.specs.Word.{product, power};
 
 // One more than the largest half word, 2^32.
@@ -34,4 +35,15 @@ pub fn power(b: u64, n: u64) -> u64
         left = left / 2;
     }
     result
+}
+
+// 0 in every word that is lent.
+pub fn clear(words: &mut [u64])
+    ensures { λ _. ⌜ now (words .exit) ≡ replicate (length (now (words .entry))) 0 ⌝ }
+{
+    let mut i = 0;
+    while i < words.len() {
+        words[i] = 0;
+        i += 1;
+    }
 }

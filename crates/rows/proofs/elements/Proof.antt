@@ -1,11 +1,11 @@
 -- `elements` copies the 17 element words of a row. Invariant: the first j are copied.
-use mathlib.Core.Path.{_≡_, _∙_}
+use mathlib.Core.Path.{_≡_}
 use Prim.Native.Nat.{_-_, _≤_}
 use native.Mathlib.Omega.{arith}
 use lib.ListN.{take}
 use borrow.Author.Needs.{needs}
 use Rattle.chain.specs.Chain as Chain
-use Rattle.chain.proofs.Rows.{row-store, row-filled, row-whole}
+use Rattle.chain.proofs.Rows.{row-store, array-filled}
 use Rattle.plan.specs.Row.{elements}
 use Rattle.plan.specs.Plan.{row}
 use Rattle.rows.proofs.RowWords.{element-at, length-elements}
@@ -64,8 +64,7 @@ returns c =
     let r = c .before .before .before .before .args .r in
     let turn = c .before .loop in
     let asked = c .before .before .before .before .pre in
-    row-filled 17 (elements (row plan r)) (turn .j) (turn .inv .1) (omega arith) ∙ row-whole 17 (elements (row plan r))
-    (length-elements plan r (asked .1) (asked .0))
+    array-filled 17 (elements (row plan r)) (turn .j) (length-elements plan r (asked .1) (asked .0)) (turn .inv .1) (omega arith)
 
 pub elements-spec : {M : Type 1} → statement M
 elements-spec =

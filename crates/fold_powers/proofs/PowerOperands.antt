@@ -1,0 +1,212 @@
+-- Literal powers and raises of operands that stand in a plan: what the code leaves in each case is what the rules say.
+use mathlib.Core.Path.{_≡_, refl, sym, ap, ap₂, _∙_}
+use mathlib.Core.Bool.{Bool, true, false, cond, _&&_}
+use mathlib.Core.Logic.{_⊎_, inl, inr}
+use mathlib.Core.List.{List, [], _∷_}
+use Prim.Native.Nat.{ℕ, _+_, _-_, _*_, _≤_, _<_}
+use native.Mathlib.Omega.{arith}
+use lib.Dec.{eqb, leb}
+use lib.ListN.{length, getD, take}
+use borrow.Author.Tests.{eqb-true, eq-eqb, ne-eqb, le-leb, lt-leb}
+use Rattle.word.specs.Word as Word
+use Rattle.chain.specs.declared.ChainAnswer.{ChainAnswer}
+use Rattle.chain.specs.Chain as Chain
+use Rattle.chain.specs.Chain.{words, trimmed, withoutTrailing}
+use Rattle.chain.specs.SumChain as SumChain
+use Rattle.chain.specs.ProductChain as ProductChain
+use Rattle.chain.specs.Answer.{answered, chain}
+use Rattle.plan.specs.Row.{kind, wordA, elements}
+use Rattle.plan.specs.Plan.{row}
+use Rattle.folding.specs.Folded as Folded
+use Rattle.folding.specs.Folded.{Folded, constant, powerRow, raiseRow, isSumChain, isProductChain, ofProduct, trimmedSum, trimmedProduct}
+use Rattle.folding.specs.Folding.{wordOf, lengthOf, foldPower, foldRaise}
+use Rattle.folding.specs.Layout.{rowWords}
+use Rattle.rows.specs.Standing.{rowStart, withRow, placed, filledWithOnes}
+use Rattle.rows.proofs.Stood.{kindOf, is-constant, no-constant, is-sum-chain, no-sum-chain, is-product-chain, no-product-chain, placed-again}
+use Rattle.operands.specs.Operands.{Operand, Folds, FoldsBoth}
+use Rattle.operands.proofs.OperandLaws.{Sum, one, several, sum-operand, operand-kind, operand-last}
+use Rattle.operands.proofs.OperandLaws.{operand-elements, operand-word, operand-chain, operand-taken}
+use Rattle.operands.proofs.Leaving.{left-as, sum-left, product-left, answer-put, power-row-left, raise-row-left}
+use Rattle.fold_powers.proofs.PowerChains.{powered, power-trimmed, raise-trimmed}
+
+-- ---- literal power: the rules, by the kind of the operand
+module _ (a : Folded) (n : ℕ) where
+  constant-rule : kindOf a ≡ 0 → foldPower 64 a n ≡ constant (Word.power 64 (wordOf a) n)
+  unfolding foldPower
+  constant-rule e = rw (is-constant a e)
+
+  zero-rule : 0 < kindOf a → n ≡ 0 → foldPower 64 a n ≡ constant 1
+  unfolding foldPower
+  zero-rule other e = rw (no-constant a (λ z. omega (arith, z)), eq-eqb n 0 e)
+
+  one-rule : 0 < kindOf a → n ≡ 1 → foldPower 64 a n ≡ a
+  unfolding foldPower
+  one-rule other e = rw (no-constant a (λ z. omega (arith, z)), ne-eqb n 0 (λ z. omega (arith, z)), eq-eqb n 1 e)
+
+  module _ (other : 0 < kindOf a) (high : 2 ≤ n) where
+    high-rules : foldPower 64 a n
+        ≡ cond (isSumChain a && leb (lengthOf a * n) 16) (trimmedSum (words 64 (SumChain.power (Folded.elements a) n)))
+        (cond (isProductChain a) (trimmedProduct (words 64 (ProductChain.powerOfEach (Folded.elements a) n))) (powerRow a n))
+    unfolding foldPower
+    high-rules = rw (no-constant a (λ z. omega (arith, z)), ne-eqb n 0 (λ z. omega (arith, z)), ne-eqb n 1 (λ z. omega (arith, z)))
+
+    sum-rule : kindOf a ≡ 1 → lengthOf a * n ≤ 16 → foldPower 64 a n ≡ trimmedSum (words 64 (SumChain.power (Folded.elements a) n))
+    sum-rule e few = high-rules ∙ rw (is-sum-chain a e, le-leb (lengthOf a * n) 16 few)
+
+    product-rule : kindOf a ≡ 2 → foldPower 64 a n ≡ trimmedProduct (words 64 (ProductChain.powerOfEach (Folded.elements a) n))
+    product-rule e = high-rules ∙ rw (no-sum-chain a (λ z. omega (arith, z, e)), is-product-chain a e)
+
+    long-rule : kindOf a ≡ 1 → 16 < lengthOf a * n → foldPower 64 a n ≡ powerRow a n
+    long-rule e many = high-rules ∙ rw (is-sum-chain a e, lt-leb (lengthOf a * n) 16 many, no-product-chain a (λ z. omega (arith, z, e)))
+
+    row-rule : 2 < kindOf a → foldPower 64 a n ≡ powerRow a n
+    row-rule e = high-rules ∙ rw (no-sum-chain a (λ z. omega (arith, z)), no-product-chain a (λ z. omega (arith, z)))
+
+-- ---- literal power: what the code leaves
+some : {x y : ℕ} → x ≡ y → (y ≡ 0 → ⊥) → 0 < x
+some e z = omega (arith, e, z)
+
+module _ (p : List ℕ) (first end n : ℕ) {k : ℕ} (at : k ≡ kind (row p (end - 1))) where
+  abbrev Powers : ℕ → List ℕ → Type 0
+  Powers r q = Folds (λ a. foldPower 64 a n) p first end r q
+
+  kind-is : {a : Folded} → Operand p first end a → kindOf a ≡ k
+  kind-is h = sym (operand-kind h) ∙ sym at
+
+  pub power-of-constant : {c v : ℕ} {q : List ℕ} → k ≡ 0 → c ≡ getD (row p (end - 1)) 3 0 → v ≡ Word.power 64 c n
+      → q ≡ placed p first (constant v) → Powers (first + 1) q
+  power-of-constant {c} {v} z hc hv hq a h =
+      left-as (constant-rule a n zero ∙ ap constant (ap (λ x. Word.power 64 x n) (sym (hc ∙ operand-word h (omega (arith, zero)))) ∙ sym hv))
+      (sum-left (v ∷ []) hq)
+    where
+      zero : kindOf a ≡ 0
+      zero = kind-is h ∙ z
+
+  pub power-zero : {q : List ℕ} → (k ≡ 0 → ⊥) → n ≡ 0 → q ≡ placed p first (constant 1) → Powers (first + 1) q
+  power-zero z e hq a h = left-as (zero-rule a n (some (kind-is h) z) e) (sum-left (1 ∷ []) hq)
+
+  pub power-one : (k ≡ 0 → ⊥) → n ≡ 1 → Powers end p
+  power-one z e a h =
+      left-as (one-rule a n (some (kind-is h) z) e) record { words = sym (placed-again p first a (h .stands)); behind = h .behind }
+
+  module _ (high : 2 ≤ n) (other : 0 < kind (row p (end - 1))) where
+    other-kind : {a : Folded} → Operand p first end a → 0 < kindOf a
+    other-kind h = omega (arith, other, operand-kind h)
+
+    pub power-of-product : {last : ℕ} {f o v q : List ℕ} → k ≡ 2 → last ≡ wordA (row p (end - 1)) → f ≡ elements (row p (end - 1))
+        → o ≡ filledWithOnes 17 (take (last + 1) f) → v ≡ words 64 (ProductChain.powerOfEach o n) → q ≡ placed p first (trimmedProduct v)
+        → Powers (first + 1) q
+    power-of-product {last} {f} {o} {v} two hl hf ho hv hq a h =
+        left-as (product-rule a n (other-kind h) high kind-two ∙ ap ofProduct (sym (ap (λ x. ProductChain.trimmedProduct x) filled ∙ trims)))
+        (product-left (ProductChain.trimmedProduct v) hq)
+      where
+        kind-two : kindOf a ≡ 2
+        kind-two = kind-is h ∙ two
+
+        few : kindOf a ≤ 2
+        few = omega (arith, kind-two)
+
+        filled : v ≡ words 64 (ProductChain.powerOfEach (filledWithOnes 17 (Folded.elements a)) n)
+        filled = hv ∙ ap (λ g. words 64 (ProductChain.powerOfEach g n)) (ho ∙ ap (filledWithOnes 17) (operand-taken h few hf hl))
+
+        trims : ProductChain.trimmedProduct (words 64 (ProductChain.powerOfEach (filledWithOnes 17 (Folded.elements a)) n))
+            ≡ ProductChain.trimmedProduct (words 64 (ProductChain.powerOfEach (Folded.elements a) n))
+        trims = power-trimmed (Folded.elements a) n (operand-chain h few .most)
+
+    pub power-of-sum : {last : ℕ} {f q : List ℕ} {t : ChainAnswer} → k ≡ 1 → last ≡ wordA (row p (end - 1)) → f ≡ elements (row p (end - 1))
+        → last * n ≤ 16 → t ≡ answered (chain (powered f last n))
+        → q ≡ withRow p first (cond (eqb (t .length) 0) 0 1 ∷ (t .length) ∷ 0 ∷ (t .elements)) → Powers (first + 1) q
+    power-of-sum {last} {f} single hl hf within ht hq a h =
+        left-as
+        (sum-rule a n (other-kind h) high kind-one (omega (arith, within, ap (λ m. m * n) (hl ∙ operand-last h few)))
+        ∙ ap (λ g. trimmedSum (words 64 (SumChain.power g n))) (sym (operand-taken h few hf hl)))
+        (sum-left (powered f last n) (answer-put p first (words 64 (SumChain.power (take (last + 1) f) n)) ht hq))
+      where
+        kind-one : kindOf a ≡ 1
+        kind-one = kind-is h ∙ single
+
+        few : kindOf a ≤ 2
+        few = omega (arith, kind-one)
+
+    power-row : {q : List ℕ} → rowStart first ≤ length p → ((a : Folded) → Operand p first end a → foldPower 64 a n ≡ powerRow a n)
+        → q ≡ withRow p end (rowWords 7 (end - 1) n []) → Powers (end + 1) q
+    power-row room rule hq a h = left-as (rule a h) (power-row-left h room n hq)
+
+    pub power-as-row : {last : ℕ} {q : List ℕ} → rowStart first ≤ length p → last ≡ wordA (row p (end - 1)) → (k ≡ 2 → ⊥)
+        → ((k ≡ 1) × (16 < last * n)) ⊎ (k ≡ 1 → ⊥) → q ≡ withRow p end (rowWords 7 (end - 1) n []) → Powers (end + 1) q
+    power-as-row {last} room hl two (inl (single, many)) hq = power-row room long hq
+      where
+        long : (a : Folded) → Operand p first end a → foldPower 64 a n ≡ powerRow a n
+        long a h =
+            long-rule a n (other-kind h) high (kind-is h ∙ single)
+            (omega (arith, many, ap (λ m. m * n) (hl ∙ operand-last h (omega (arith, kind-is h ∙ single)))))
+    power-as-row room hl two (inr none) hq = power-row room rest hq
+      where
+        rest : (a : Folded) → Operand p first end a → foldPower 64 a n ≡ powerRow a n
+        rest a h = row-rule a n (other-kind h) high (above (kind-is h) (other-kind h))
+          where
+            above : {x : ℕ} → x ≡ k → 0 < x → 2 < x
+            above e some = omega (arith, e, some, two, none)
+
+-- ---- raise: the rules, by the kinds of the operands
+trimmed-alone : (x : ℕ) → trimmedProduct (x ∷ []) ≡ constant x
+unfolding trimmed withoutTrailing
+trimmed-alone x = go (eqb x 0) refl
+  where
+    go : (t : Bool) → eqb x 0 ≡ t → ofProduct (cond t (0 ∷ []) (x ∷ [])) ≡ constant x
+    go true e = ap constant (sym (eqb-true x 0 e))
+    go false e = refl
+
+-- "C by C" is "C by S" with f0 alone.
+raise-rule : (a b : Folded) → kindOf a ≡ 0 → kindOf b < 2
+    → foldRaise 64 a b ≡ trimmedProduct (words 64 (ProductChain.raised (wordOf a) (Folded.elements b)))
+unfolding foldRaise
+raise-rule a b z few = go (sum-operand b few)
+  where
+    go : {b : Folded} → Sum b → foldRaise 64 a b ≡ trimmedProduct (words 64 (ProductChain.raised (wordOf a) (Folded.elements b)))
+    go (one e) = rw (is-constant a z) (sym (trimmed-alone (Word.power 64 (wordOf a) e)))
+    go (several f) = rw (is-constant a z)
+
+raise-row-rule : (a b : Folded) → ((kindOf a ≡ 0) × (2 ≤ kindOf b)) ⊎ (kindOf a ≡ 0 → ⊥) → foldRaise 64 a b ≡ raiseRow a b
+unfolding foldRaise
+raise-row-rule a b (inl (z, many)) = rw (is-constant a z, no-constant b (λ e. omega (arith, e)), no-sum-chain b (λ e. omega (arith, e)))
+raise-row-rule a b (inr none) = rw (no-constant a none)
+
+-- ---- raise: what the code leaves
+module _ (p : List ℕ) (left middle end : ℕ) {j k : ℕ} (base : j ≡ kind (row p (middle - 1))) (exponent : k ≡ kind (row p (end - 1))) where
+  pub raise-folded : {c : ℕ} {f v q : List ℕ} → j ≡ 0 → k < 2 → c ≡ getD (row p (middle - 1)) 3 0 → f ≡ elements (row p (end - 1))
+      → v ≡ words 64 (ProductChain.raised c f) → q ≡ placed p left (trimmedProduct v) → FoldsBoth (foldRaise 64) p left middle end (left + 1) q
+  raise-folded {c} {f} {v} z few hc hf hv hq a b h =
+      left-as
+      (raise-rule a b zero small
+      ∙ ap ofProduct
+      (sym (ap (λ x. ProductChain.trimmedProduct x) filled ∙ raise-trimmed (wordOf a) (Folded.elements b) (operand-chain (h .second) below .most))))
+      (product-left (ProductChain.trimmedProduct v) hq)
+    where
+      zero : kindOf a ≡ 0
+      zero = sym (operand-kind (h .first)) ∙ sym base ∙ z
+
+      small : kindOf b < 2
+      small = omega (arith, operand-kind (h .second), exponent, few)
+
+      below : kindOf b ≤ 2
+      below = omega (arith, small)
+
+      filled : v ≡ words 64 (ProductChain.raised (wordOf a) (Chain.row 17 (Folded.elements b)))
+      filled =
+          hv
+          ∙ ap₂ (λ x g. words 64 (ProductChain.raised x g)) (hc ∙ operand-word (h .first) (omega (arith, zero)))
+          (hf ∙ operand-elements (h .second) below)
+
+  pub raise-as-row : {q : List ℕ} → rowStart left ≤ length p → ((j ≡ 0) × (2 ≤ k)) ⊎ (j ≡ 0 → ⊥)
+      → q ≡ withRow p end (rowWords 8 (middle - 1) (end - 1) []) → FoldsBoth (foldRaise 64) p left middle end (end + 1) q
+  raise-as-row room kinds hq a b h = left-as (raise-row-rule a b (of-kinds kinds)) (raise-row-left h room hq)
+    where
+      of-kinds : ((j ≡ 0) × (2 ≤ k)) ⊎ (j ≡ 0 → ⊥) → ((kindOf a ≡ 0) × (2 ≤ kindOf b)) ⊎ (kindOf a ≡ 0 → ⊥)
+      of-kinds (inl (z, many)) = inl (sym (operand-kind (h .first)) ∙ sym base ∙ z, omega (arith, many, exponent, operand-kind (h .second)))
+      of-kinds (inr none) = inr (λ z. none (base ∙ operand-kind (h .first) ∙ z))
+
+-- Two ways to one place.
+pub either-way : {A B C D : Type 0} → A ⊎ B → (A → C) → (B → D) → C ⊎ D
+either-way (inl a) f g = inl (f a)
+either-way (inr b) f g = inr (g b)

@@ -1,0 +1,137 @@
+// Literal powers and raises of operands that stand at the top of a lent plan.
+use chain::ChainAnswer;
+use operands::append;
+use operands::first_element;
+use operands::kind;
+use operands::length_of;
+use operands::put_constant;
+use operands::put_sum;
+ghost use mathlib.Core.Path.{_≡_};
+ghost use Prim.Native.Nat.{_+_, _-_, _*_, _≤_, _<_};
+ghost use lib.ListN.{length, take};
+ghost use Rattle.plan.specs.Row.{kind};
+ghost use Rattle.plan.specs.Plan.{row};
+ghost use Rattle.chain.specs.Chain.{words, trimmed};
+ghost use Rattle.chain.specs.SumChain.{power};
+ghost use Rattle.chain.specs.ProductChain.{powerOfEach, raised};
+ghost use Rattle.chain.specs.Answer.{answered, chain};
+ghost use Rattle.folding.specs.Folding.{foldPower, foldRaise};
+ghost use Rattle.operands.specs.Operands.{One, Two, Folds, FoldsBoth};
+
+// The chain f of length k to the n, trimmed.
+fn power_of(f: [u64; 17], k: usize, n: u64) -> ChainAnswer
+    requires { ⌜ 1 ≤ n ⌝ }
+    requires { ⌜ k * n ≤ 16 ⌝ }
+    ensures { λ r. ⌜ r ≡ answered (chain (trimmed 0 (words 64 (power (take (k + 1) f) n)))) ⌝ }
+{
+    let mut r = chain::trim(f, k);
+    let mut i = 1;
+    while i < n {
+        let elements = r.elements;
+        let next = chain::product(elements, r.length, f, k);
+        r = next;
+        i += 1;
+    }
+    r
+}
+
+// Every word to the n.
+fn power_each(f: [u64; 17], n: u64) -> [u64; 17]
+    ensures { λ r. ⌜ r ≡ words 64 (powerOfEach f n) ⌝ }
+{
+    let mut r = chain::zeros();
+    let mut j = 0;
+    while j < 17 {
+        r[j] = word::power(f[j], n);
+        j += 1;
+    }
+    r
+}
+
+// c to every word; a 0 past a chain's length gives 1.
+fn raise_each(c: u64, f: [u64; 17]) -> [u64; 17]
+    ensures { λ r. ⌜ r ≡ words 64 (raised c f) ⌝ }
+{
+    let mut r = chain::zeros();
+    let mut i = 0;
+    while i < 17 {
+        r[i] = word::power(c, f[i]);
+        i += 1;
+    }
+    r
+}
+
+// Chains and operators to the n: S^n if k*n is at most 16, every element of P, or a row.
+fn fold_high_power(plan: &mut [u64], first: usize, end: usize, n: u64) -> usize
+    requires { ⌜ 2561 ≤ length (now plan) ⌝ }
+    requires { ⌜ end < 128 ⌝ }
+    requires { ⌜ 2 ≤ n ⌝ }
+    requires { ⌜ n ≤ 64 ⌝ }
+    requires { ⌜ One (now plan) first end ⌝ }
+    requires { ⌜ 0 < kind (row (now plan) (end - 1)) ⌝ }
+    ensures { λ r. ⌜ Folds (λ a. foldPower 64 a n) (now (plan .entry)) first end r (now (plan .exit)) ⌝ }
+{
+    let root = end - 1;
+    let root_kind = kind(plan, root);
+    let k = length_of(plan, root);
+    let f = rows::elements(plan, root);
+    if root_kind == 2 {
+        rows::put_product(plan, first, power_each(rows::with_ones(f, k), n));
+        return first + 1;
+    }
+    if root_kind == 1 {
+        if k as u64 * n <= 16 {
+            put_sum(plan, first, power_of(f, k, n));
+            return first + 1;
+        }
+    }
+    append(plan, end, 7, root as u64, n);
+    end + 1
+}
+
+// The operand from row first up to row end, to the n: "A^0 is 1, A^1 is A".
+pub fn fold_power(plan: &mut [u64], first: usize, end: usize, n: u64) -> usize
+    requires { ⌜ 2561 ≤ length (now plan) ⌝ }
+    requires { ⌜ end < 128 ⌝ }
+    requires { ⌜ n ≤ 64 ⌝ }
+    requires { ⌜ One (now plan) first end ⌝ }
+    ensures { λ r. ⌜ Folds (λ a. foldPower 64 a n) (now (plan .entry)) first end r (now (plan .exit)) ⌝ }
+{
+    let root = end - 1;
+    if kind(plan, root) == 0 {
+        let c = word::power(first_element(plan, root), n);
+        put_constant(plan, first, c);
+        return first + 1;
+    }
+    if n == 0 {
+        put_constant(plan, first, 1);
+        return first + 1;
+    }
+    if n == 1 {
+        return end;
+    }
+    fold_high_power(plan, first, end, n)
+}
+
+// The operand before row middle to the one behind it: "C by C worked out; C by S becomes a product chain with elements C^fj."
+pub fn fold_raise(plan: &mut [u64], left: usize, middle: usize, end: usize) -> usize
+    requires { ⌜ 2561 ≤ length (now plan) ⌝ }
+    requires { ⌜ end < 128 ⌝ }
+    requires { ⌜ Two (now plan) left middle end ⌝ }
+    ensures { λ r. ⌜ FoldsBoth (foldRaise 64) (now (plan .entry)) left middle end r (now (plan .exit)) ⌝ }
+{
+    let base_root = middle - 1;
+    let exponent_root = end - 1;
+    let base = kind(plan, base_root);
+    let exponent = kind(plan, exponent_root);
+    if base == 0 {
+        if exponent < 2 {
+            let c = first_element(plan, base_root);
+            let f = rows::elements(plan, exponent_root);
+            rows::put_product(plan, left, raise_each(c, f));
+            return left + 1;
+        }
+    }
+    append(plan, end, 8, base_root as u64, exponent_root as u64);
+    end + 1
+}

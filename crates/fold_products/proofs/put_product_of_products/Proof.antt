@@ -1,0 +1,43 @@
+-- `put_product_of_products` puts the trimmed product of two product chains.
+use mathlib.Core.Path.{ap, ap₂, _∙_}
+use Rattle.chain.specs.Chain.{words}
+use Rattle.chain.specs.ProductChain.{jointProduct}
+use Rattle.folding.specs.Folded.{trimmedProduct}
+use Rattle.rows.specs.Standing.{placed}
+use borrow.Author.Needs.{needs}
+use Rattle.fold_products.proofs.put_product_of_products.Statement.{statement}
+use Rattle.fold_products.proofs.put_product_of_products.Tie as tie
+
+filled-requires : tie.Need-filled-requires
+filled-requires c κs = search needs
+
+filled-requires-2 : tie.Need-filled-requires-2
+filled-requires-2 c κs = search needs
+
+joint-requires : tie.Need-joint-requires
+joint-requires c κs = search needs
+
+put-product-requires : tie.Need-put-product-requires
+put-product-requires c κs = search needs
+
+same-length : tie.Need-same-length
+same-length c = search needs
+
+returns : tie.Need-returns
+returns c =
+    let args = c .before .before .before .before .before .before .before .before .before .before .args in
+    c .before .before .put-product .ensures
+    ∙ ap (λ f. placed (args .plan .now) (args .r) (trimmedProduct f))
+    (c .before .before .before .joint .ensures
+    ∙ ap₂ (λ f g. words 64 (jointProduct f g)) (c .before .before .before .before .before .before .before .filled .ensures) (c .before .before .before .before .before .filled2 .ensures))
+
+pub put-product-of-products-spec : {M : Type 1} → statement M
+put-product-of-products-spec =
+    tie.close
+    (tie.spec
+    filled-requires
+    filled-requires-2
+    joint-requires
+    put-product-requires
+    same-length
+    returns)

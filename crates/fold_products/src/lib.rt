@@ -1,0 +1,195 @@
+// Products of operands that stand at the top of a lent plan.
+use operands::append;
+use operands::is_constant;
+use operands::kind;
+use operands::length_of;
+use operands::put_constant;
+use operands::put_sum;
+ghost use mathlib.Core.Path.{_≡_};
+ghost use mathlib.Core.Bool.{_&&_, _||_};
+ghost use Prim.Native.Nat.{_+_, _≤_, _<_};
+ghost use lib.Dec.{eqb, ltb, leb};
+ghost use lib.ListN.{length, getD, take};
+ghost use Rattle.chain.specs.Chain.{words};
+ghost use Rattle.chain.specs.SumChain.{product};
+ghost use Rattle.chain.specs.ProductChain.{jointProduct};
+ghost use Rattle.chain.specs.Answer.{given};
+ghost use Rattle.plan.specs.Row.{kind, wordA, elements};
+ghost use Rattle.plan.specs.Plan.{row};
+ghost use Rattle.folding.specs.Folded.{trimmedSum, trimmedProduct};
+ghost use Rattle.folding.specs.Folding.{foldProduct};
+ghost use Rattle.rows.specs.Standing.{placed, filledWithOnes};
+ghost use Rattle.operands.specs.Operands.{Two, FoldsBoth};
+
+// Element by element.
+fn joint(f: [u64; 17], g: [u64; 17]) -> [u64; 17]
+    ensures { λ r. ⌜ r ≡ words 64 (jointProduct f g) ⌝ }
+{
+    let mut r = chain::zeros();
+    let mut j = 0;
+    while j < 17 {
+        r[j] = word::times(f[j], g[j]);
+        j += 1;
+    }
+    r
+}
+
+// The product chain in row r, or a constant as its element 0, filled with ones.
+fn filled(plan: &[u64], r: usize) -> [u64; 17]
+    requires { ⌜ 2561 ≤ length (now plan) ⌝ }
+    requires { ⌜ r < 128 ⌝ }
+    requires { ⌜ wordA (row (now plan) r) ≤ 16 ⌝ }
+    ensures { λ f. ⌜ f ≡ filledWithOnes 17 (take (wordA (row (now (plan .entry)) r) + 1) (elements (row (now (plan .entry)) r))) ⌝ }
+{
+    let length = length_of(plan, r);
+    rows::with_ones(rows::elements(plan, r), length)
+}
+
+// One of the rows a and b is the constant 0.
+fn has_zero(plan: &[u64], a: usize, b: usize) -> bool
+    requires { ⌜ 2561 ≤ length (now plan) ⌝ }
+    requires { ⌜ a < 128 ⌝ }
+    requires { ⌜ b < 128 ⌝ }
+    ensures { λ s. ⌜
+        s
+        ≡ (eqb (kind (row (now (plan .entry)) a)) 0 && eqb (getD (row (now (plan .entry)) a) 3 0) 0
+        || eqb (kind (row (now (plan .entry)) b)) 0 && eqb (getD (row (now (plan .entry)) b) 3 0) 0)
+        ⌝ }
+{
+    if is_constant(plan, a, 0) {
+        return true;
+    }
+    is_constant(plan, b, 0)
+}
+
+// Rows a and b are constants or sum chains, with lengths that add to 16 at most.
+fn are_sums(plan: &[u64], a: usize, b: usize) -> bool
+    requires { ⌜ 2561 ≤ length (now plan) ⌝ }
+    requires { ⌜ a < 128 ⌝ }
+    requires { ⌜ b < 128 ⌝ }
+    ensures { λ s. ⌜
+        s
+        ≡ (ltb (kind (row (now (plan .entry)) a)) 2
+        && (ltb (kind (row (now (plan .entry)) b)) 2
+        && leb (wordA (row (now (plan .entry)) a) + wordA (row (now (plan .entry)) b)) 16))
+        ⌝ }
+{
+    if 1 < kind(plan, a) {
+        return false;
+    }
+    if 1 < kind(plan, b) {
+        return false;
+    }
+    let length = length_of(plan, a);
+    if 16 < length {
+        return false;
+    }
+    length_of(plan, b) <= 16 - length
+}
+
+// Row r is a constant or a product chain.
+fn is_product(plan: &[u64], r: usize) -> bool
+    requires { ⌜ 2561 ≤ length (now plan) ⌝ }
+    requires { ⌜ r < 128 ⌝ }
+    ensures { λ s. ⌜ s ≡ (eqb (kind (row (now (plan .entry)) r)) 0 || eqb (kind (row (now (plan .entry)) r)) 2) ⌝ }
+{
+    let k = kind(plan, r);
+    if k == 0 {
+        return true;
+    }
+    k == 2
+}
+
+fn are_products(plan: &[u64], a: usize, b: usize) -> bool
+    requires { ⌜ 2561 ≤ length (now plan) ⌝ }
+    requires { ⌜ a < 128 ⌝ }
+    requires { ⌜ b < 128 ⌝ }
+    ensures { λ s. ⌜
+        s
+        ≡ ((eqb (kind (row (now (plan .entry)) a)) 0 || eqb (kind (row (now (plan .entry)) a)) 2)
+        && (eqb (kind (row (now (plan .entry)) b)) 0 || eqb (kind (row (now (plan .entry)) b)) 2))
+        ⌝ }
+{
+    if is_product(plan, a) {
+        return is_product(plan, b);
+    }
+    false
+}
+
+// The product of the sum chains in rows a and b by document 000's rule, in row r.
+fn put_product_of_sums(plan: &mut [u64], r: usize, a: usize, b: usize)
+    requires { ⌜ 2561 ≤ length (now plan) ⌝ }
+    requires { ⌜ r < 128 ⌝ }
+    requires { ⌜ a < 128 ⌝ }
+    requires { ⌜ b < 128 ⌝ }
+    requires { ⌜ wordA (row (now plan) a) + wordA (row (now plan) b) ≤ 16 ⌝ }
+    ensures { λ _. ⌜
+        now (plan .exit)
+        ≡ placed (now (plan .entry)) r
+        (trimmedSum
+        (words 64
+        (product (given (elements (row (now (plan .entry)) a)) (wordA (row (now (plan .entry)) a)))
+        (given (elements (row (now (plan .entry)) b)) (wordA (row (now (plan .entry)) b))))))
+        ⌝ }
+{
+    let f = rows::elements(plan, a);
+    let k = length_of(plan, a);
+    let g = rows::elements(plan, b);
+    let l = length_of(plan, b);
+    put_sum(plan, r, chain::product(f, k, g, l));
+}
+
+// The product of the product chains in rows a and b, in row r.
+fn put_product_of_products(plan: &mut [u64], r: usize, a: usize, b: usize)
+    requires { ⌜ 2561 ≤ length (now plan) ⌝ }
+    requires { ⌜ r < 128 ⌝ }
+    requires { ⌜ a < 128 ⌝ }
+    requires { ⌜ b < 128 ⌝ }
+    requires { ⌜ wordA (row (now plan) a) ≤ 16 ⌝ }
+    requires { ⌜ wordA (row (now plan) b) ≤ 16 ⌝ }
+    ensures { λ _. ⌜
+        now (plan .exit)
+        ≡ placed (now (plan .entry)) r
+        (trimmedProduct
+        (words 64
+        (jointProduct
+        (filledWithOnes 17 (take (wordA (row (now (plan .entry)) a) + 1) (elements (row (now (plan .entry)) a))))
+        (filledWithOnes 17 (take (wordA (row (now (plan .entry)) b) + 1) (elements (row (now (plan .entry)) b)))))))
+        ⌝ }
+{
+    let f = filled(plan, a);
+    let g = filled(plan, b);
+    rows::put_product(plan, r, joint(f, g));
+}
+
+// Constants 1 and 0 first, then sum chains, then product chains; anything else stays a row.
+pub fn fold_product(plan: &mut [u64], left: usize, middle: usize, end: usize) -> usize
+    requires { ⌜ 2561 ≤ length (now plan) ⌝ }
+    requires { ⌜ end < 128 ⌝ }
+    requires { ⌜ Two (now plan) left middle end ⌝ }
+    ensures { λ r. ⌜ FoldsBoth (foldProduct 64) (now (plan .entry)) left middle end r (now (plan .exit)) ⌝ }
+{
+    let left_root = middle - 1;
+    let right_root = end - 1;
+    if is_constant(plan, left_root, 1) {
+        rows::move_down(plan, middle, end);
+        return right_root;
+    }
+    if is_constant(plan, right_root, 1) {
+        return right_root;
+    }
+    if has_zero(plan, left_root, right_root) {
+        put_constant(plan, left, 0);
+        return left + 1;
+    }
+    if are_sums(plan, left_root, right_root) {
+        put_product_of_sums(plan, left, left_root, right_root);
+        return left + 1;
+    }
+    if are_products(plan, left_root, right_root) {
+        put_product_of_products(plan, left, left_root, right_root);
+        return left + 1;
+    }
+    append(plan, end, 5, left_root as u64, right_root as u64);
+    end + 1
+}
