@@ -15,6 +15,7 @@ use Rattle.word.proofs.Ring.{word-fits, difference-sum}
 use Rattle.word.proofs.Unique.{both-are}
 use Rattle.probe.specs.declared.Verdict.the-variants.{NoVerdict, Within, Ahead, Behind}
 use Rattle.probe.specs.declared.ProbeAnswer.{ProbeAnswer}
+pub use Rattle.probe.specs.Probe.{wordOf}
 use Rattle.probe.specs.Probe.{half, signed, offset, verdict, accepted, refused, probeAnswer, ahead, behind, within, verdictWord, judgement}
 use Rattle.probe.proofs.Signs.{two-halves, by-halves}
 
@@ -45,11 +46,6 @@ pub offset-range : (w reading expected : ℕ) → 0 < w
     → (negℤ (pos (half w)) ≤ℤ offset w reading expected) × (offset w reading expected ≤ℤ pos (half w - 1))
 offset-range w reading expected some =
     signed-range w (difference w reading expected) some (difference-fits w reading expected)
-
--- The word that a signed number reads: n, and 2^w - (n + 1) for -(n + 1).
-abbrev pub wordOf : ℕ → ℤ → ℕ
-wordOf w (pos n) = n
-wordOf w (negsuc n) = 2 ^ w - suc n
 
 pub signed-word : (w d : ℕ) → d < 2 ^ w → wordOf w (signed w d) ≡ d
 signed-word w d fits = by-halves w d (λ z. wordOf w z ≡ d) fits (λ low. refl) (λ high. omega arith)

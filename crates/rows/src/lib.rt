@@ -32,8 +32,8 @@ pub fn elements(plan: &[u64], r: usize) -> [u64; 17]
     e
 }
 
-// The 20 words of a row.
-fn write_row(row: &mut [u64], kind: u64, a: u64, b: u64, elements: [u64; 17])
+// The 20 words of a row, or of anything that is laid out as one.
+pub fn write_row(row: &mut [u64], kind: u64, a: u64, b: u64, elements: [u64; 17])
     requires { ⌜ length (now row) ≡ 20 ⌝ }
     ensures { λ _. ⌜ now (row .exit) ≡ kind ∷ a ∷ b ∷ elements ⌝ }
 {

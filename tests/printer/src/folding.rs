@@ -32,7 +32,7 @@ impl Folded {
     }
 
     /// A constant or a sum chain as the elements of a sum chain.
-    fn sums(&self) -> Option<Vec<u64>> {
+    pub fn sums(&self) -> Option<Vec<u64>> {
         match self {
             Constant(word) => Some(vec![*word]),
             Sums(chain) => Some(chain.clone()),
@@ -80,7 +80,7 @@ fn element_wise(f: &[u64], g: &[u64], filling: u64, join: impl Fn(u64, u64) -> u
 }
 
 /// The numbers (i over 0) to (i over 16), by the rule of the triangle.
-fn binomials(i: usize) -> Vec<u64> {
+pub fn binomials(i: usize) -> Vec<u64> {
     let mut line = vec![1];
     for _ in 0..i {
         let raised: Vec<u64> = std::iter::once(0).chain(line.iter().copied()).collect();
@@ -90,13 +90,13 @@ fn binomials(i: usize) -> Vec<u64> {
 }
 
 /// The value of a sum chain at index i.
-fn value_at(chain: &[u64], i: usize) -> u64 {
+pub fn value_at(chain: &[u64], i: usize) -> u64 {
     let terms = chain.iter().zip(binomials(i)).map(|(element, times)| element.wrapping_mul(times));
     terms.fold(0, u64::wrapping_add)
 }
 
 /// The sum chain of this length whose values at the indices from 0 on are given.
-fn chain_of(length: usize, value: impl Fn(usize) -> u64) -> Folded {
+pub fn chain_of(length: usize, value: impl Fn(usize) -> u64) -> Folded {
     let mut values: Vec<u64> = (0..=length).map(value).collect();
     let mut chain = vec![];
     while let Some(first) = values.first() {

@@ -1,17 +1,6 @@
 //! An independent table printer. `expected` reads a job file on standard input and prints what the table printer must
 //! write; `compare` makes random job files and compares; `cases` writes the files under cases/.
-mod cases;
-mod compare;
-#[cfg(test)]
-mod documents;
-mod files;
-mod folding;
-mod formula;
-mod formulas;
-mod grammar;
-mod random;
-mod tables;
-
+use printer::{cases, compare, tables};
 use std::io::{Read, Write};
 use std::path::PathBuf;
 use std::process::ExitCode;

@@ -1,0 +1,399 @@
+-- The three demands as theorems about the contracts of the public calls alone, each under the sentence that it renders; then, for each call,
+-- that any two answers which meet its contract are equal. The contracts are `Compiling` of compile; `fill`, `costAnswer` and `soundAnswer` of
+-- plan; `answered` of an outcome and `valueAnswer` of chain; `probeAnswer` of probe. Words have 64 bits. Bridges.antt has the longer steps.
+use mathlib.Core.Path.{_≡_, refl, sym, ap, _∙_}
+use mathlib.Core.Bool.{true, false}
+use mathlib.Core.Logic.{_↔_, _⊎_, inl, inr}
+use mathlib.Core.List.{List, [], _++_}
+use Prim.Native.Nat.{ℕ, suc, _+_, _-_, _*_, _%_, _^_, _≤_, _<_}
+use native.Mathlib.Nat.{mul-one}
+use native.Mathlib.Omega.{arith}
+use lib.ListN.{length, getD, take, drop, replicate}
+use lib.IntN.{pos, negℤ}
+use lib.Signed.{_<ℤ_, _≤ℤ_}
+use borrow.Author.Tests.{lt-ltb, le-ltb}
+use Rattle.word.specs.Word as Word
+use Rattle.formula.specs.Tree.{Tree, number, literalPower, raise, nodes, holdsX}
+use Rattle.formula.specs.Grammar.{Formula}
+use Rattle.formula.specs.Value.{valueFor, directValue}
+use Rattle.formula.specs.Refusals.{TooDeep, StopsAt, Part, Fault, too-long, too-deep, not-grammar, Refused, Accepted}
+use Rattle.formula.proofs.Answers.{accepted-fits, accepted-base}
+use Rattle.formula.proofs.GrammarScan.{unambiguous, decided}
+use Rattle.chain.specs.declared.ChainAnswer.{ChainAnswer}
+use Rattle.chain.specs.declared.ValueAnswer.{ValueAnswer}
+use Rattle.chain.specs.Chain as Chain
+use Rattle.chain.specs.SumChain.{sumAt}
+use Rattle.chain.specs.ProductChain.{productAt}
+use Rattle.chain.specs.Coefficients.{polynomial}
+use Rattle.chain.specs.Answer.{answered, chain, given, trimOutcome, sumOutcome, differenceOutcome, productOutcome, shiftOutcome, coefficientsOutcome, valueAnswer}
+use Rattle.chain.proofs.Values as Values
+use Rattle.chain.proofs.SumLaws as SumLaws
+use Rattle.chain.proofs.ProductLaws.{value-product-words}
+use Rattle.chain.proofs.Promises as ChainPromises
+use Rattle.plan.specs.declared.FillAnswer.{FillAnswer}
+use Rattle.plan.specs.declared.CostAnswer.{CostAnswer}
+use Rattle.plan.specs.declared.SoundAnswer.{SoundAnswer}
+use Rattle.plan.specs.Plan as Plan
+use Rattle.plan.specs.Points.{rootValue}
+use Rattle.plan.specs.Filling.{pointCost, pointsFor, planAfter, filled, fillRefused, fill, costAnswer, soundAnswer}
+use Rattle.plan.proofs.Accepting.{refused-alters-nothing}
+use Rattle.plan.proofs.Sharing as Sharing
+use Rattle.plan.proofs.Sharing.{Call, planLeft, pointsOf, written}
+use Rattle.folding.specs.Folding.{fold}
+use Rattle.folding.specs.Layout.{planWords}
+use Rattle.folding.proofs.Compiled as Compiled
+use Rattle.folding.proofs.Compiled.{OneSum}
+use Rattle.compile.specs.declared.CompileAnswer.{CompileAnswer}
+use Rattle.compile.specs.Compiling.{Compiling, too-short, refused, accepted}
+use Rattle.compile.proofs.Promise.{compiling-unique}
+use Rattle.probe.specs.declared.ProbeAnswer.{ProbeAnswer}
+use Rattle.probe.specs.declared.Verdict.the-variants.{NoVerdict}
+use Rattle.probe.specs.Probe as ProbeSpec
+use Rattle.probe.specs.Probe.{half, offset, verdict, verdictWord, ahead, behind, within, probeAnswer}
+use Rattle.probe.proofs.Laws as Probe
+use Rattle.otterchime.proofs.Bridges as Bridges
+
+-- ======== Demand 1: "Formulas, job lines, plans and lent tables may hold anything at all. The library answers or refuses, with the number and
+-- place that document 01 fixes, at the first check that applies. A refused call changes nothing it was lent."
+-- Job lines are read by the table printer alone: job/proofs/Adding.antt and GoingOn.antt speak of every input.
+-- ---- compile
+-- Whatever the text, the grid and the lent plan hold, there is an answer.
+pub compile-answers : (s : List ℕ) (start step : ℕ) (lent : List ℕ) → (r : CompileAnswer) × (q : List ℕ) × Compiling 64 s start step lent r q
+compile-answers = Bridges.some-answer
+
+module _ {s : List ℕ} {start step : ℕ} {lent : List ℕ} {r : CompileAnswer} {q : List ℕ} (call : Compiling 64 s start step lent r q) where
+  -- "1: plan shorter than 2,561 words", ahead of whatever is wrong with the text.
+  pub compile-short : length lent < 2561 → r ≡ record { number = 1; place = 0 }
+  compile-short h = compiling-unique call (too-short h) .0
+
+  -- "the first number that applies": where some of 2 to 8 apply to the text, the answer is one that does, at its leftmost place, and no
+  -- smaller number applies.
+  pub compile-first : 2561 ≤ length lent → {n p : ℕ} → Fault 64 s n p → Refused 64 s (r .number) (r .place)
+  compile-first whole {n} {p} fault =
+      Bridges.first-fault call whole (λ nought. let (t, A) = Bridges.some-tree call nought in A .faultless n p fault)
+
+  -- "An accepted call answers number 0, place 0": where none applies, the call is accepted.
+  pub compile-accepts : 2561 ≤ length lent → ((n p : ℕ) → Fault 64 s n p → ⊥) → r ≡ record { number = 0; place = 0 }
+  compile-accepts whole none = go (decided s)
+    where
+      go : ((t : Tree) × Formula s t) ⊎ ((p : ℕ) × StopsAt s p) → r ≡ record { number = 0; place = 0 }
+      go (inl (t, M)) = compiling-unique call (accepted whole (record { means = M; faultless = none })) .0
+      go (inr (p, S)) = absurd (none 4 p (not-grammar S))
+
+  -- "A refused call changes nothing it was lent."
+  pub refused-compile-keeps : (r .number ≡ 0 → ⊥) → q ≡ lent
+  refused-compile-keeps = Bridges.kept call
+
+-- ---- fill, cost and sound, whatever plan and table hold. "1: plan shorter than 2,561 words", ahead of 9. `fillRefused` is "0 points and 0
+-- spent", with table and plan as they were.
+pub plan-short : (p table : List ℕ) (budget : ℕ) → length p < 2561
+    → (fill 64 p table budget ≡ fillRefused 1 p table)
+    × (costAnswer p ≡ record { number = 1; place = 0; cost = 0 }) × (soundAnswer p ≡ record { number = 1; place = 0 })
+unfolding fill
+plan-short p table budget short = rw (lt-ltb (length p) 2561 short) (refl, refl, refl)
+
+-- "9: plan not sound (after 1)".
+pub plan-unsound : (p table : List ℕ) (budget : ℕ) → 2561 ≤ length p → Plan.sound p ≡ false
+    → (fill 64 p table budget ≡ fillRefused 9 p table)
+    × (costAnswer p ≡ record { number = 9; place = 0; cost = 0 }) × (soundAnswer p ≡ record { number = 9; place = 0 })
+unfolding fill
+plan-unsound p table budget whole unsound = rw (le-ltb (length p) 2561 whole, unsound) (refl, refl, refl)
+
+-- Otherwise the call is accepted: `filled` has the points, the budget spent, and all words of table and plan, by 01's filling rule.
+pub plan-sound : (p table : List ℕ) (budget : ℕ) → 2561 ≤ length p → Plan.sound p ≡ true
+    → (fill 64 p table budget ≡ filled 64 (pointsFor p (length table) budget) p table)
+    × (costAnswer p ≡ record { number = 0; place = 0; cost = Plan.cost p }) × (soundAnswer p ≡ record { number = 0; place = 0 })
+unfolding fill
+plan-sound p table budget whole sound = rw (le-ltb (length p) 2561 whole, sound) (refl, refl, refl)
+
+-- "A refused call changes nothing it was lent", for fill: neither table nor plan. No other call is lent a word that it may change.
+pub refused-fill-keeps : (p table : List ℕ) (budget : ℕ) → (fill 64 p table budget .answer .number ≡ 0 → ⊥)
+    → (fill 64 p table budget .table ≡ table) × (fill 64 p table budget .plan ≡ p)
+    × (fill 64 p table budget .answer .points ≡ 0) × (fill 64 p table budget .answer .spent ≡ 0)
+refused-fill-keeps p table budget some =
+    rw (refused-alters-nothing 64 p table budget (λ e. some (Bridges.fill-number p table budget ∙ e))) (refl, refl, refl, refl)
+
+-- ---- the chain calls: "Refused chain calls (13 to 15) return the constant 0 beside the number", place 0
+abbrev pub noChain : ℕ → ChainAnswer
+noChain n = record { number = n; place = 0; length = 0; elements = replicate 17 0 }
+
+-- "14: a chain given with length over 16", of one chain or of either of two, and ahead of 15; "A refused value call answers the word 0".
+pub chain-long : (f : List ℕ) (k : ℕ) → 16 < k
+    → (answered (trimOutcome f k) ≡ noChain 14) × (answered (shiftOutcome 64 f k) ≡ noChain 14)
+    × (valueAnswer f k ≡ record { number = 14; place = 0; word = 0 })
+unfolding Chain.row
+chain-long f k over = rw (lt-ltb 16 k over) (refl, refl, refl)
+
+pub either-long : (f : List ℕ) (k : ℕ) (g : List ℕ) (l : ℕ) → (16 < k) ⊎ (16 < l)
+    → (answered (sumOutcome 64 f k g l) ≡ noChain 14) × (answered (differenceOutcome 64 f k g l) ≡ noChain 14)
+    × (answered (productOutcome 64 f k g l) ≡ noChain 14)
+unfolding Chain.row
+either-long f k g l over =
+    (ap answered (Bridges.either-long over _), ap answered (Bridges.either-long over _), ap answered (Bridges.either-long over _))
+
+-- "15: chain product, trimmed lengths add over 16".
+pub product-over : (f : List ℕ) (k : ℕ) (g : List ℕ) (l : ℕ) → k ≤ 16 → l ≤ 16
+    → 16 < (length (given f k) - 1) + (length (given g l) - 1) → answered (productOutcome 64 f k g l) ≡ noChain 15
+unfolding Chain.row
+product-over f k g l h j over = rw (le-ltb 16 k h, le-ltb 16 l j, lt-ltb 16 ((length (given f k) - 1) + (length (given g l) - 1)) over)
+
+-- "13: over 17 coefficients".
+pub coefficients-long : (a : List ℕ) → 17 < length a → answered (coefficientsOutcome 64 a) ≡ noChain 13
+unfolding Chain.row
+coefficients-long a h = rw (lt-ltb 17 (length a) h)
+
+-- ---- probe: "10: T is 2^63 or more"; "a refused probe returns offset 0 and no verdict"
+pub probe-refused : (reading expected tolerance : ℕ) → 2 ^ 63 ≤ tolerance
+    → probeAnswer reading expected tolerance ≡ record { number = 10; place = 0; offset = pos 0; verdict = NoVerdict }
+probe-refused reading expected tolerance h = rw (le-ltb tolerance (half 64) h)
+
+-- ======== Demand 2: "Reading follows 01's grammar and limits, no text more and no text less. Chains mean what the papers say, modulo 2^64; every
+-- product, sum, shift and offset is right by that meaning. Compiling folds exactly where 01 folds, and the plan has 01's layout."
+-- ---- "01's grammar and limits": the text means a tree, and keeps every limit of 2, 3 and 5 to 8
+pub record Allowed (s : List ℕ) (t : Tree) : Type 0 where
+  pub grammar : Formula s t
+  pub bytes : length s ≤ 1024
+  pub brackets : (p : ℕ) → TooDeep s p → ⊥
+  pub numbers : (p v : ℕ) → Part (number p v) t → v < 2 ^ 64
+  pub exponents : (a : Tree) (p n : ℕ) → Part (literalPower a p n) t → n ≤ 64
+  pub size : nodes t ≤ 128
+  pub bases : (a b : Tree) (p : ℕ) → Part (raise a p b) t → (holdsX a ≡ false) × (valueFor 64 0 a % 2 ≡ 1)
+
+allowed : {s : List ℕ} {t : Tree} → Accepted 64 s t → Allowed s t
+allowed {s} A =
+    let long : 1024 < length s → ⊥ = λ h. A .faultless _ _ (too-long h) in
+    record {
+      grammar = A .means;
+      bytes = omega arith;
+      brackets = λ p d. A .faultless 3 p (too-deep d);
+      numbers = accepted-fits A .0;
+      exponents = accepted-fits A .1;
+      size = accepted-fits A .2;
+      bases = accepted-base A;
+    }
+
+faultless : {s : List ℕ} {t : Tree} → Allowed s t → (n p : ℕ) → Fault 64 s n p → ⊥
+faultless L n p = Bridges.no-fault (L .grammar) (L .bytes) (L .brackets) (L .numbers) (L .exponents) (L .size) (L .bases)
+
+-- "So -x^2 is -(x^2)": the tree is the grammar's, and a text has no second one.
+pub one-tree : {s : List ℕ} {t u : Tree} → Formula s t → Formula s u → t ≡ u
+one-tree = unambiguous
+
+module _ {s : List ℕ} {start step : ℕ} {lent : List ℕ} {r : CompileAnswer} {q : List ℕ} (call : Compiling 64 s start step lent r q) where
+  -- "no text more and no text less": accepted exactly where the grammar and the limits allow it.
+  pub accepted-exactly : 2561 ≤ length lent → (r .number ≡ 0) ↔ ((t : Tree) × Allowed s t)
+  accepted-exactly whole = (
+    λ nought. let (t, A) = Bridges.some-tree call nought in (t, allowed A),
+    λ (t, L). ap (λ a. a .number) (compile-accepts call whole (faultless L)),
+  )
+
+  -- "4: not in the grammar": refused 4 exactly where the grammar has no such text, and neither 2 nor 3 applies.
+  pub outside-exactly : 2561 ≤ length lent
+      → (r .number ≡ 4) ↔ ((length s ≤ 1024) × ((p : ℕ) → TooDeep s p → ⊥) × ((t : Tree) → Formula s t → ⊥))
+  outside-exactly whole = (
+    λ e. Bridges.four-only call whole e,
+    λ (short, flat, outside). ap (λ a. a .number) (compiling-unique call (refused whole (Bridges.refused-four short flat outside .1)) .0),
+  )
+
+  -- "first byte after which no grammar text can begin so; the length if the text only stops early".
+  pub outside-place : r .number ≡ 4 → StopsAt s (r .place)
+  outside-place e =
+      let A = Bridges.first-fault call (Bridges.long-enough call (omega arith)) (λ z. omega arith) in
+      Bridges.leaves-grammar (A .applies) e
+
+  -- "Compiling folds exactly where 01 folds, and the plan has 01's layout": the words are those of the folded tree, all 2,561 of them, and
+  -- the words after these stay. Folding.antt and Layout.antt have the rules, each under 01's sentence.
+  pub plan-layout : r .number ≡ 0 → {t : Tree} → Formula s t
+      → (q ≡ planWords (fold 64 start step t) ++ drop 2561 lent) × (length (planWords (fold 64 start step t)) ≡ 2561)
+  plan-layout nought means =
+      let (A, e) = Bridges.its-plan call nought means in
+      (e, Compiled.compiled-length 64 start step (omega arith) A)
+
+-- ---- "Chains mean what the papers say, modulo 2^64": document 000's recurrences, f0 at index 0 and at index i + 1 the value at i joined with the
+-- value at i of the chain without f0; elements taken modulo 2^64 have the same values modulo 2^64
+pub sum-chains-mean : (f : List ℕ) (i : ℕ)
+    → (sumAt f 0 ≡ Chain.value 0 f) × (sumAt f (suc i) ≡ sumAt f i + sumAt (Chain.rest f) i)
+    × (sumAt (Chain.words 64 f) i % 2 ^ 64 ≡ sumAt f i % 2 ^ 64)
+sum-chains-mean f i = (SumLaws.sum-now f, SumLaws.sum-next f i, SumLaws.value-words 64 f i)
+
+pub product-chains-mean : (f : List ℕ) (i : ℕ)
+    → (productAt f 0 ≡ Chain.value 1 f) × (productAt f (suc i) ≡ productAt f i * productAt (Chain.rest f) i)
+    × (productAt (Chain.words 64 f) i % 2 ^ 64 ≡ productAt f i % 2 ^ 64)
+product-chains-mean f i = (Values.value-now _*_ 1 mul-one f, Values.value-next _*_ 1 mul-one f i, value-product-words 64 f i)
+
+-- The value at index i of a chain that is given as words and a length: words past the length are not read.
+abbrev pub valueOf : List ℕ → ℕ → ℕ → ℕ
+valueOf f k i = Word.word 64 (sumAt (take (k + 1) f) i)
+
+-- The call is accepted, its chain is trimmed with 0 past its length, and has these values, at every index.
+pub record Answers (r : ChainAnswer) (values : ℕ → ℕ) : Type 0 where
+  pub number : r .number ≡ 0
+  pub place : r .place ≡ 0
+  pub short : r .length ≤ 16
+  pub last : 0 < r .length → getD (r .elements) (r .length) 0 ≡ 0 → ⊥
+  pub past : (j : ℕ) → r .length < j → getD (r .elements) j 0 ≡ 0
+  pub right : (i : ℕ) → valueOf (r .elements) (r .length) i ≡ values i
+
+answers : (f : List ℕ) {values : ℕ → ℕ} → length f ≤ 17 → ((i : ℕ) → Word.word 64 (sumAt f i) ≡ values i)
+    → Answers (answered (chain (Chain.trimmed 0 f))) values
+answers f short same =
+    record {
+      number = refl;
+      place = refl;
+      short = Bridges.answer-length f short;
+      last = Bridges.answer-last f short;
+      past = Bridges.answer-past f short;
+      right = λ i. ap (Word.word 64) (Bridges.answer-value f short i) ∙ same i;
+    }
+
+-- ---- "every product, sum, shift and offset is right by that meaning": the chain calls, for all words and lengths that are not refused
+module _ (f : List ℕ) (k : ℕ) (fits : k ≤ 16) where
+  pub trim-right : Answers (answered (trimOutcome f k)) (valueOf f k)
+  trim-right = rw (le-ltb 16 k fits) (answers (take (k + 1) f) (Bridges.taken-short f k fits) (λ i. refl))
+
+  pub shift-right : Answers (answered (shiftOutcome 64 f k)) (λ i. valueOf f k (suc i))
+  shift-right = rw (le-ltb 16 k fits) (answers _ (Bridges.shift-short f k fits) (Bridges.shift-value f k))
+
+  pub value-right : valueAnswer f k ≡ record { number = 0; place = 0; word = sumAt (take (k + 1) f) 0 }
+  unfolding Chain.trimmed
+  value-right = rw (le-ltb 16 k fits) (ap (λ a. record { number = 0; place = 0; word = a }) (sym (SumLaws.sum-now (take (k + 1) f))))
+
+  module _ (g : List ℕ) (l : ℕ) (fits′ : l ≤ 16) where
+    pub sum-right : Answers (answered (sumOutcome 64 f k g l)) (λ i. Word.sum 64 (valueOf f k i) (valueOf g l i))
+    sum-right = rw (le-ltb 16 k fits, le-ltb 16 l fits′) (answers _ (Bridges.sum-short f k g l fits fits′) (Bridges.sum-value f k g l))
+
+    pub difference-right : Answers (answered (differenceOutcome 64 f k g l)) (λ i. Word.difference 64 (valueOf f k i) (valueOf g l i))
+    difference-right =
+        rw (le-ltb 16 k fits, le-ltb 16 l fits′) (answers _ (Bridges.difference-short f k g l fits fits′) (Bridges.difference-value f k g l))
+
+    pub product-right : (length (given f k) - 1) + (length (given g l) - 1) ≤ 16
+        → Answers (answered (productOutcome 64 f k g l)) (λ i. Word.product 64 (valueOf f k i) (valueOf g l i))
+    product-right h =
+        rw (le-ltb 16 k fits, le-ltb 16 l fits′, le-ltb 16 ((length (given f k) - 1) + (length (given g l) - 1)) h)
+        (answers _ (Bridges.product-short f k g l h) (Bridges.product-value f k g l))
+
+-- "A coefficient list a0..ad in the index i": the polynomial's value at every index, of an empty list too.
+pub coefficients-right : (a : List ℕ) → length a ≤ 17 → Answers (answered (coefficientsOutcome 64 a)) (λ i. Word.word 64 (polynomial a i))
+coefficients-right a h =
+    rw (le-ltb 17 (length a) h) (answers _ (Bridges.coefficients-short a) (λ i. Bridges.coefficients-value a i h))
+
+-- ---- the probe, for every reading and every tolerance that is not refused
+module _ (reading expected tolerance : ℕ) (fits : tolerance < 2 ^ 63) where
+  abbrev probed : ProbeAnswer
+  probed = probeAnswer reading expected tolerance
+
+  -- "Every reading is judged this way."
+  pub probe-accepts : probed ≡ ProbeSpec.accepted (offset 64 reading expected) tolerance
+  probe-accepts = rw (lt-ltb tolerance (half 64) fits)
+
+  -- "offset = reading - expected modulo 2^64, read as a signed number from -2^63 to 2^63 - 1".
+  pub offset-right : (negℤ (pos (2 ^ 63)) ≤ℤ probed .offset) × (probed .offset ≤ℤ pos (2 ^ 63 - 1))
+      × (Word.sum 64 (Probe.wordOf 64 (probed .offset)) expected ≡ Word.word 64 reading)
+  offset-right =
+      let (least, greatest) = Probe.offset-range 64 reading expected (omega arith) in
+      rw probe-accepts (least, greatest, Probe.offset-word 64 reading expected)
+
+  -- "Offset above T is *ahead*, below -T is *behind*, else *within*. Offset -2^63 is always behind."
+  pub verdict-right : (pos tolerance <ℤ probed .offset → verdictWord (probed .verdict) ≡ ahead)
+      × (probed .offset <ℤ negℤ (pos tolerance) → verdictWord (probed .verdict) ≡ behind)
+      × (negℤ (pos tolerance) ≤ℤ probed .offset → probed .offset ≤ℤ pos tolerance → verdictWord (probed .verdict) ≡ within)
+      × (probed .offset ≡ negℤ (pos (2 ^ 63)) → verdictWord (probed .verdict) ≡ behind)
+  verdict-right = rw probe-accepts (
+    Probe.above-is-ahead (offset 64 reading expected) tolerance,
+    Probe.below-is-behind (offset 64 reading expected) tolerance,
+    Probe.else-is-within (offset 64 reading expected) tolerance,
+    λ e. ap (λ z. verdictWord (verdict z tolerance)) e ∙ ap verdictWord (Probe.lowest-is-behind 64 tolerance fits),
+  )
+
+-- ======== Demand 3: "A compiled plan says what its formula says: for every accepted formula, start, step and index the filled word is the formula's
+-- direct value there, however the filling is shared out over calls, each getting the plan as the last one left it. A call with room and budget for
+-- a point writes one. Of two formulas that each compile to one constant or one sum chain, the chains are equal exactly when the direct values agree
+-- at indices 0 to 16, each on its own grid."
+module _ {s : List ℕ} {start step : ℕ} {lent : List ℕ} {r : CompileAnswer} {q : List ℕ} (call : Compiling 64 s start step lent r q)
+    (nought : r .number ≡ 0) {t : Tree} (means : Formula s t) where
+  -- No fill of a compiled plan is refused, whatever calls were made before it.
+  pub compiled-never-refused : (earlier : List Call) (table : List ℕ) (budget : ℕ)
+      → fill 64 (planLeft 64 q earlier) table budget .answer .number ≡ 0
+  compiled-never-refused = Bridges.never-refused q (Bridges.its-refusal call nought means)
+
+  -- "the filled word is the formula's direct value there": after whatever calls, each on the plan that the one before it left, word j of the
+  -- next call's points has the index of all points before it and j.
+  pub filled-word : (earlier : List Call) (table : List ℕ) (budget j : ℕ) → j < fill 64 (planLeft 64 q earlier) table budget .answer .points
+      → getD (fill 64 (planLeft 64 q earlier) table budget .table) j 0 ≡ directValue 64 start step t (pointsOf 64 q earlier + j)
+  filled-word = Bridges.its-word call nought means
+
+  -- The same of all that any list of calls writes, one after the other.
+  pub filled-words : (calls : List Call) (i : ℕ) → i < pointsOf 64 q calls → getD (written 64 q calls) i 0 ≡ directValue 64 start step t i
+  filled-words = Bridges.its-words call nought means
+
+  -- "every index": calls with room and budget for one point each come to every index.
+  pub every-index : (i : ℕ) → (calls : List Call) × (i < pointsOf 64 q calls)
+  every-index i =
+      let count = Bridges.one-by-one (suc i) q (pointCost q) (Bridges.its-refusal call nought means) refl in
+      (Bridges.oneByOne (pointCost q) (suc i), omega (arith, count))
+
+-- "A call with room and budget for a point writes one": at least one point, and the first word is the plan's value.
+pub writes-one : (p table : List ℕ) (budget : ℕ) → fill 64 p table budget .answer .number ≡ 0 → 0 < length table → pointCost p ≤ budget
+    → (0 < fill 64 p table budget .answer .points) × (getD (fill 64 p table budget .table) 0 0 ≡ rootValue 64 p)
+unfolding planLeft pointsOf planAfter
+writes-one p table budget nought room enough =
+    let sound = sym (Bridges.fill-number p table budget) ∙ nought in
+    let some = Sharing.writes-one 64 p table budget sound room enough in
+    (some, Bridges.word-written p sound [] table budget 0 some)
+
+-- "the chains are equal exactly when the direct values agree at indices 0 to 16, each on its own grid". `OneSum` is a plan of one row, of kind 0 or
+-- 1; the row holds kind, length and elements.
+module _ {s : List ℕ} {start step : ℕ} {lent : List ℕ} {r : CompileAnswer} {q : List ℕ} (call : Compiling 64 s start step lent r q)
+    (nought : r .number ≡ 0) {t : Tree} (means : Formula s t)
+    {s′ : List ℕ} {start′ step′ : ℕ} {lent′ : List ℕ} {r′ : CompileAnswer} {q′ : List ℕ} (call′ : Compiling 64 s′ start′ step′ lent′ r′ q′)
+    (nought′ : r′ .number ≡ 0) {t′ : Tree} (means′ : Formula s′ t′) where
+  pub equal-chains : OneSum q → OneSum q′
+      → (Plan.row q 0 ≡ Plan.row q′ 0) ↔ ((i : ℕ) → i ≤ 16 → directValue 64 start step t i ≡ directValue 64 start′ step′ t′ i)
+  equal-chains = Bridges.their-rows call nought means call′ nought′ means′
+
+-- ======== "any two conforming answers are proved equal", with all that the call leaves in what it was lent
+pub compile-unique : {s : List ℕ} {start step : ℕ} {lent : List ℕ} {r r′ : CompileAnswer} {q q′ : List ℕ}
+    → Compiling 64 s start step lent r q → Compiling 64 s start step lent r′ q′ → (r ≡ r′) × (q ≡ q′)
+compile-unique = compiling-unique
+
+pub fill-unique : (p table : List ℕ) (budget : ℕ) (r r′ : FillAnswer) (t t′ q q′ : List ℕ)
+    → r ≡ fill 64 p table budget .answer → t ≡ fill 64 p table budget .table → q ≡ fill 64 p table budget .plan
+    → r′ ≡ fill 64 p table budget .answer → t′ ≡ fill 64 p table budget .table → q′ ≡ fill 64 p table budget .plan
+    → (r ≡ r′) × (t ≡ t′) × (q ≡ q′)
+fill-unique = Sharing.fill-unique
+
+pub cost-unique : (p : List ℕ) (r r′ : CostAnswer) → r ≡ costAnswer p → r′ ≡ costAnswer p → r ≡ r′
+cost-unique = Sharing.cost-unique
+
+pub sound-unique : (p : List ℕ) (r r′ : SoundAnswer) → r ≡ soundAnswer p → r′ ≡ soundAnswer p → r ≡ r′
+sound-unique = Sharing.sound-unique
+
+pub trim-unique : (f : List ℕ) (k : ℕ) (r r′ : ChainAnswer) → r ≡ answered (trimOutcome f k) → r′ ≡ answered (trimOutcome f k) → r ≡ r′
+trim-unique = ChainPromises.trim-unique
+
+pub sum-unique : (f : List ℕ) (k : ℕ) (g : List ℕ) (l : ℕ) (r r′ : ChainAnswer)
+    → r ≡ answered (sumOutcome 64 f k g l) → r′ ≡ answered (sumOutcome 64 f k g l) → r ≡ r′
+sum-unique = ChainPromises.sum-unique
+
+pub difference-unique : (f : List ℕ) (k : ℕ) (g : List ℕ) (l : ℕ) (r r′ : ChainAnswer)
+    → r ≡ answered (differenceOutcome 64 f k g l) → r′ ≡ answered (differenceOutcome 64 f k g l) → r ≡ r′
+difference-unique = ChainPromises.difference-unique
+
+pub product-unique : (f : List ℕ) (k : ℕ) (g : List ℕ) (l : ℕ) (r r′ : ChainAnswer)
+    → r ≡ answered (productOutcome 64 f k g l) → r′ ≡ answered (productOutcome 64 f k g l) → r ≡ r′
+product-unique = ChainPromises.product-unique
+
+pub shift-unique : (f : List ℕ) (k : ℕ) (r r′ : ChainAnswer)
+    → r ≡ answered (shiftOutcome 64 f k) → r′ ≡ answered (shiftOutcome 64 f k) → r ≡ r′
+shift-unique = ChainPromises.shift-unique
+
+pub value-unique : (f : List ℕ) (k : ℕ) (r r′ : ValueAnswer) → r ≡ valueAnswer f k → r′ ≡ valueAnswer f k → r ≡ r′
+value-unique = ChainPromises.value-unique
+
+pub from-coefficients-unique : (a : List ℕ) (r r′ : ChainAnswer)
+    → r ≡ answered (coefficientsOutcome 64 a) → r′ ≡ answered (coefficientsOutcome 64 a) → r ≡ r′
+from-coefficients-unique = ChainPromises.from-coefficients-unique
+
+pub probe-unique : (reading expected tolerance : ℕ) (r r′ : ProbeAnswer)
+    → r ≡ probeAnswer reading expected tolerance → r′ ≡ probeAnswer reading expected tolerance → r ≡ r′
+probe-unique = Probe.probe-unique

@@ -1,0 +1,56 @@
+-- The words that each call of the door leaves in its lent answer: word 0 is the refusal's number, word 1 its place, then come the call's own words.
+-- What an answer says is defined in the crates below; only its layout is defined here.
+use mathlib.Core.Path.{_≡_}
+use mathlib.Core.List.{List, [], _∷_}
+use Prim.Native.Nat.{ℕ}
+use Rattle.chain.specs.declared.ChainAnswer.{ChainAnswer}
+use Rattle.chain.specs.declared.ValueAnswer.{ValueAnswer}
+use Rattle.plan.specs.declared.FillAnswer.{FillAnswer}
+use Rattle.plan.specs.declared.CostAnswer.{CostAnswer}
+use Rattle.plan.specs.declared.SoundAnswer.{SoundAnswer}
+use Rattle.compile.specs.declared.CompileAnswer.{CompileAnswer}
+use Rattle.compile.specs.Compiling.{Compiling}
+use Rattle.probe.specs.declared.Verdict.{Verdict}
+use Rattle.probe.specs.declared.Verdict.the-variants.{NoVerdict, Within, Ahead, Behind}
+use Rattle.probe.specs.declared.ProbeAnswer.{ProbeAnswer}
+use Rattle.probe.specs.Probe.{wordOf}
+
+-- Number and place.
+abbrev pub compileWords : CompileAnswer → List ℕ
+compileWords r = r .number ∷ r .place ∷ []
+
+abbrev pub soundWords : SoundAnswer → List ℕ
+soundWords r = r .number ∷ r .place ∷ []
+
+-- Number, place, the plan's cost.
+abbrev pub costWords : CostAnswer → List ℕ
+costWords r = r .number ∷ r .place ∷ r .cost ∷ []
+
+-- Number, place, the points written, the budget spent.
+abbrev pub fillWords : FillAnswer → List ℕ
+fillWords r = r .number ∷ r .place ∷ r .points ∷ r .spent ∷ []
+
+-- Number, place, the chain's length, its 17 elements.
+abbrev pub chainWords : ChainAnswer → List ℕ
+chainWords r = r .number ∷ r .place ∷ r .length ∷ r .elements
+
+-- Number, place, the word at the present point.
+abbrev pub valueWords : ValueAnswer → List ℕ
+valueWords r = r .number ∷ r .place ∷ r .word ∷ []
+
+-- The number of each verdict: *within*, *ahead* and *behind* are 1, 2 and 3, and "no verdict" is 0.
+abbrev pub verdictNumber : Verdict → ℕ
+verdictNumber NoVerdict = 0
+verdictNumber Within = 1
+verdictNumber Ahead = 2
+verdictNumber Behind = 3
+
+-- Number, place, the word that reads as the offset, the verdict's number.
+abbrev pub probeWords : ProbeAnswer → List ℕ
+probeWords r = r .number ∷ r .place ∷ wordOf 64 (r .offset) ∷ verdictNumber (r .verdict) ∷ []
+
+-- A text compiled on a grid into a lent plan: what plan and answer hold afterwards.
+pub record CompiledInto (text : List ℕ) (start step : ℕ) (lent plan answer : List ℕ) : Type 0 where
+  pub result : CompileAnswer
+  pub compiles : Compiling 64 text start step lent result plan
+  pub laid : answer ≡ compileWords result

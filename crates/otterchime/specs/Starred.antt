@@ -1,0 +1,157 @@
+-- 01's starred cases as one table: the lines with a star of 'Both sides of the edges', each under 01's own words, and what a line says of the
+-- public contracts. proofs/StarredTable.antt computes the table and reads a line off; x*x-x^2+7 on any grid is in proofs/AnyGrid.antt.
+use mathlib.Core.Path.{_≡_}
+use mathlib.Core.List.{List, [], _∷_, _++_}
+use Prim.Native.Nat.{ℕ, _-_, _*_, _^_, _≤_, _<_}
+use Prim.Native.String.{String}
+use lib.ListN.{length, getD, drop, replicate}
+use Rattle.chain.specs.Coefficients.{tabulated}
+use Rattle.formula.specs.Bytes.{bytes}
+use Rattle.formula.specs.Tree.{Tree}
+use Rattle.formula.specs.Refusals.{Refused, Accepted}
+use Rattle.formula.specs.Value.{directValue}
+use Rattle.plan.specs.Row.{Row}
+use Rattle.plan.specs.Plan as Plan
+use Rattle.plan.specs.Filling.{pointValues, fill, costAnswer}
+use Rattle.folding.specs.Folding.{fold}
+use Rattle.folding.specs.Layout.{rowWords, wordsOf, planWords}
+use Rattle.compile.specs.declared.CompileAnswer.{CompileAnswer}
+use Rattle.compile.specs.Compiling.{Compiling}
+
+-- ---- a line of the table
+-- What is expected of a text on a grid.
+pub data Expected : Type 0 where
+  -- A refusal's number and place.
+  refusal : (number place : ℕ) → Expected
+  -- The rows of the plan, their cost, and the values at the first indices.
+  folds : (rows : List Row) (cost : ℕ) (values : List ℕ) → Expected
+  -- The plan filled with that budget into a table of that many words: the points, the budget spent, and the rows of the plan left.
+  fills : (budget room points spent : ℕ) (left : List Row) → Expected
+
+pub record Case : Type 0 where
+  pub text : List ℕ
+  pub start : ℕ
+  pub step : ℕ
+  pub expected : Expected
+
+abbrev pub on : String → (start step : ℕ) → Expected → Case
+on text start step expected = record { text = bytes text; start = start; step = step; expected = expected }
+
+-- "Start 0 and step 1 unless said."
+abbrev pub plainly : String → Expected → Case
+plainly text expected = on text 0 1 expected
+
+-- The rows of 01's table, by their kind.
+abbrev pub constant : ℕ → Row
+constant c = rowWords 0 0 0 (c ∷ [])
+
+abbrev pub sumChain : List ℕ → Row
+sumChain f = rowWords 1 (length f - 1) 0 f
+
+abbrev pub productChain : List ℕ → Row
+productChain f = rowWords 2 (length f - 1) 0 f
+
+abbrev pub literalPower : (row n : ℕ) → Row
+literalPower row n = rowWords 7 row n []
+
+abbrev pub raise : (base exponent : ℕ) → Row
+raise base exponent = rowWords 8 base exponent []
+
+-- One row.
+abbrev pub alone : Row → List Row
+alone row = row ∷ []
+
+-- The chain of x^16.
+abbrev pub chainOfSixteenth : List ℕ
+chainOfSixteenth =
+    0 ∷ 1 ∷ 65534 ∷ 42850116 ∷ 4123173624 ∷ 131542866000 ∷ 1969147121760 ∷ 16540688324160 ∷ 86355926616960 ∷ 297846188640000
+    ∷ 703098107712000 ∷ 1155068769254400 ∷ 1320663933388800 ∷ 1031319184896000 ∷ 524813313024000 ∷ 156920924160000 ∷ 20922789888000 ∷ []
+
+-- ---- the table
+unfoldable pub starred : List Case
+starred =
+    -- "x^3: chain 0,1,6,6. Budget 15, table of 10: 3 points, 12 spent, plan 27,37,24,6."
+    plainly "x^3" (folds (alone (sumChain (0 ∷ 1 ∷ 6 ∷ 6 ∷ []))) 3 (0 ∷ 1 ∷ 8 ∷ 27 ∷ []))
+    ∷ plainly "x^3" (fills 15 10 3 12 (alone (sumChain (27 ∷ 37 ∷ 24 ∷ 6 ∷ []))))
+    -- "3*x+1, start 5, step 2: chain 16,6."
+    ∷ on "3*x+1" 5 2 (folds (alone (sumChain (16 ∷ 6 ∷ []))) 1 (16 ∷ 22 ∷ 28 ∷ []))
+    -- "x^2, step 2^32: constant 0."
+    ∷ on "x^2" 0 (2 ^ 32) (folds (alone (constant 0)) 0 (0 ∷ 0 ∷ 0 ∷ []))
+    -- "x and x^2+x, step 2^63: both 0,2^63."
+    ∷ on "x" 0 (2 ^ 63) (folds (alone (sumChain (0 ∷ (2 ^ 63) ∷ []))) 1 (0 ∷ (2 ^ 63) ∷ 0 ∷ []))
+    ∷ on "x^2+x" 0 (2 ^ 63) (folds (alone (sumChain (0 ∷ (2 ^ 63) ∷ []))) 1 (0 ∷ (2 ^ 63) ∷ 0 ∷ []))
+    -- "-x^2: chain 0, 2^64 - 1, 2^64 - 2."
+    ∷ plainly "-x^2" (folds (alone (sumChain (0 ∷ (2 ^ 64 - 1) ∷ (2 ^ 64 - 2) ∷ []))) 2 (0 ∷ (2 ^ 64 - 1) ∷ (2 ^ 64 - 4) ∷ []))
+    -- "3^(x): product chain 1,3."
+    ∷ plainly "3^(x)" (folds (alone (productChain (1 ∷ 3 ∷ []))) 1 (1 ∷ 3 ∷ 9 ∷ []))
+    -- "3^(3^(x)): three rows, cost 129, values 3, 27, 19683, 7625597484987."
+    ∷ plainly "3^(3^(x))" (folds (constant 3 ∷ productChain (1 ∷ 3 ∷ []) ∷ raise 0 1 ∷ []) 129 (3 ∷ 27 ∷ 19683 ∷ 7625597484987 ∷ []))
+    -- "0^0 is 1; 2^3 is 8; 2^(3) is refused 8, place 1; so is x^(2)."
+    ∷ plainly "0^0" (folds (alone (constant 1)) 0 (1 ∷ 1 ∷ []))
+    ∷ plainly "2^3" (folds (alone (constant 8)) 0 (8 ∷ 8 ∷ []))
+    ∷ plainly "2^(3)" (refusal 8 1)
+    ∷ plainly "x^(2)" (refusal 8 1)
+    -- "x^17: two rows, cost 17. x^16: one chain, last element 20922789888000."
+    ∷ plainly "x^17" (folds (sumChain (0 ∷ 1 ∷ []) ∷ literalPower 0 17 ∷ []) 17 (0 ∷ 1 ∷ 131072 ∷ []))
+    ∷ plainly "x^16" (folds (alone (sumChain chainOfSixteenth)) 16 (0 ∷ 1 ∷ 65536 ∷ []))
+    -- `"" place 0, "01" place 1, "1-" place 2, "x^2^3" place 3, all refused 4.`
+    ∷ plainly "" (refusal 4 0)
+    ∷ plainly "01" (refusal 4 1)
+    ∷ plainly "1-" (refusal 4 2)
+    ∷ plainly "x^2^3" (refusal 4 3)
+    ∷ []
+
+-- Case i of the table, from 0 on.
+abbrev pub caseAt : ℕ → Case
+caseAt i = getD starred i (plainly "" (refusal 4 0))
+
+-- ---- what a case says
+-- The 2,561 words of a plan of these rows.
+abbrev pub planOf : List Row → List ℕ
+planOf rows = length rows ∷ wordsOf rows ++ replicate (2560 - 20 * length rows) 0
+
+-- What compiling comes to by its contract, for every lent plan of 2,561 words or more: this answer and these words, and no others.
+pub record Compiles (s : List ℕ) (start step : ℕ) (answer : CompileAnswer) (left : List ℕ → List ℕ) : Type 0 where
+  pub conforms : (lent : List ℕ) → 2561 ≤ length lent → Compiling 64 s start step lent answer (left lent)
+  pub unique : (lent : List ℕ) → 2561 ≤ length lent → {r : CompileAnswer} {q : List ℕ} → Compiling 64 s start step lent r q
+      → (r ≡ answer) × (q ≡ left lent)
+
+-- A refusal: the text is refused so, and a lent plan stays as it was.
+pub record RefusedSo (s : List ℕ) (start step number place : ℕ) : Type 0 where
+  pub refused : Refused 64 s number place
+  pub compiles : Compiles s start step (record { number = number; place = place }) (λ lent. lent)
+
+-- A plan: the text is accepted, and compiling it leaves the plan of these rows, which has that cost and those values at the first indices.
+pub record FoldsSo (s : List ℕ) (start step : ℕ) (rows : List Row) (cost : ℕ) (values : List ℕ) : Type 0 where
+  pub tree : Tree
+  pub accepted : Accepted 64 s tree
+  pub laid : planWords (fold 64 start step tree) ≡ planOf rows
+  pub compiles : Compiles s start step (record { number = 0; place = 0 }) (λ lent. planOf rows ++ drop 2561 lent)
+  -- The plan, whatever words follow it.
+  pub has-rows : (rest : List ℕ) → Plan.rows (planOf rows ++ rest) ≡ rows
+  pub costs : (rest : List ℕ) → costAnswer (planOf rows ++ rest) ≡ record { number = 0; place = 0; cost = cost }
+  pub points : (rest : List ℕ) → pointValues 64 (length values) (planOf rows ++ rest) ≡ values
+  pub direct : (i : ℕ) → i < length values → directValue 64 start step tree i ≡ getD values i 0
+
+-- A filling of the compiled plan.
+pub record FillsSo (s : List ℕ) (start step budget room points spent : ℕ) (left : List Row) : Type 0 where
+  pub tree : Tree
+  pub accepted : Accepted 64 s tree
+  -- The plan as compiling leaves it, and a table of that many words: the direct values at the first indices are written into the table,
+  -- and the plan is left with these rows; all other words stay.
+  pub filled : (lent : List ℕ) → 2561 ≤ length lent → {r : CompileAnswer} {q : List ℕ} → Compiling 64 s start step lent r q
+      → (table : List ℕ) → length table ≡ room
+      → fill 64 q table budget
+      ≡ record {
+        answer = record { number = 0; place = 0; points = points; spent = spent };
+        table = tabulated (directValue 64 start step tree) 0 points ++ drop points table;
+        plan = planOf left ++ drop 2561 lent;
+      }
+
+abbrev pub SaysOf : (s : List ℕ) (start step : ℕ) → Expected → Type 0
+SaysOf s start step (refusal number place) = RefusedSo s start step number place
+SaysOf s start step (folds rows cost values) = FoldsSo s start step rows cost values
+SaysOf s start step (fills budget room points spent left) = FillsSo s start step budget room points spent left
+
+abbrev pub Says : Case → Type 0
+Says c = SaysOf (c .text) (c .start) (c .step) (c .expected)

@@ -1,0 +1,94 @@
+// The chain calls of the door. A chain comes as 17 words f and its length k; words past the length are not read.
+use chain::ChainAnswer;
+ghost use mathlib.Core.Path.{_≡_};
+ghost use Rattle.chain.specs.Answer.{answered, trimOutcome, sumOutcome, differenceOutcome, productOutcome, shiftOutcome, coefficientsOutcome, valueAnswer};
+ghost use Rattle.otterchime.specs.Answers.{chainWords, valueWords};
+
+// An answer that is a chain is laid out as a row of a plan is: three words and 17 elements.
+fn put(r: ChainAnswer, answer: &mut [u64; 20])
+    ensures { λ _. ⌜ now (answer .exit) ≡ chainWords r ⌝ }
+{
+    let elements = r.elements;
+    rows::write_row(answer, r.number, r.place, r.length as u64, elements);
+}
+
+// The chain without its trailing zeros.
+#[no_mangle]
+pub extern "C" fn otterchime_trim(f: &[u64; 17], k: u64, answer: &mut [u64; 20])
+    ensures { λ _. ⌜ now (answer .exit) ≡ chainWords (answered (trimOutcome (now (f .entry)) k)) ⌝ }
+{
+    let r = chain::trim(*f, k as usize);
+    put(r, answer);
+}
+
+// The chain after one shift.
+#[no_mangle]
+pub extern "C" fn otterchime_shift(f: &[u64; 17], k: u64, answer: &mut [u64; 20])
+    ensures { λ _. ⌜ now (answer .exit) ≡ chainWords (answered (shiftOutcome 64 (now (f .entry)) k)) ⌝ }
+{
+    let r = chain::shift(*f, k as usize);
+    put(r, answer);
+}
+
+// The chain's word at the present point.
+#[no_mangle]
+pub extern "C" fn otterchime_value(f: &[u64; 17], k: u64, answer: &mut [u64; 3])
+    ensures { λ _. ⌜ now (answer .exit) ≡ valueWords (valueAnswer (now (f .entry)) k) ⌝ }
+{
+    let r = chain::value(*f, k as usize);
+    *answer = [r.number, r.place, r.word];
+}
+
+// The sum of two chains.
+#[no_mangle]
+pub extern "C" fn otterchime_sum(
+    f: &[u64; 17],
+    k: u64,
+    g: &[u64; 17],
+    l: u64,
+    answer: &mut [u64; 20],
+)
+    ensures { λ _. ⌜ now (answer .exit) ≡ chainWords (answered (sumOutcome 64 (now (f .entry)) k (now (g .entry)) l)) ⌝ }
+{
+    let r = chain::sum(*f, k as usize, *g, l as usize);
+    put(r, answer);
+}
+
+// The difference of two chains.
+#[no_mangle]
+pub extern "C" fn otterchime_difference(
+    f: &[u64; 17],
+    k: u64,
+    g: &[u64; 17],
+    l: u64,
+    answer: &mut [u64; 20],
+)
+    ensures { λ _. ⌜ now (answer .exit) ≡ chainWords (answered (differenceOutcome 64 (now (f .entry)) k (now (g .entry)) l)) ⌝ }
+{
+    let r = chain::difference(*f, k as usize, *g, l as usize);
+    put(r, answer);
+}
+
+// The product of two chains, refused 15 where their trimmed lengths add over 16.
+#[no_mangle]
+pub extern "C" fn otterchime_product(
+    f: &[u64; 17],
+    k: u64,
+    g: &[u64; 17],
+    l: u64,
+    answer: &mut [u64; 20],
+)
+    ensures { λ _. ⌜ now (answer .exit) ≡ chainWords (answered (productOutcome 64 (now (f .entry)) k (now (g .entry)) l)) ⌝ }
+{
+    let r = chain::product(*f, k as usize, *g, l as usize);
+    put(r, answer);
+}
+
+// The chain of the polynomial with these coefficients in the index.
+#[no_mangle]
+pub extern "C" fn otterchime_from_coefficients(coefficients: &[u64], answer: &mut [u64; 20])
+    ensures { λ _. ⌜ now (answer .exit) ≡ chainWords (answered (coefficientsOutcome 64 (now (coefficients .entry)))) ⌝ }
+{
+    let r = chain::from_coefficients(coefficients);
+    put(r, answer);
+}

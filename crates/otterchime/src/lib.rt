@@ -1,0 +1,101 @@
+// The door: every public call of the box once more, for C, in one style. Numbers and slices come in, and the answer goes into lent words:
+// word 0 the refusal's number, word 1 its place, then the call's own words (specs/Answers.antt).
+// Compiling, filling and the probe are here, the chain calls in `chains`.
+mod chains;
+
+use probe::Verdict;
+ghost use mathlib.Core.Path.{_≡_};
+ghost use Rattle.plan.specs.Filling.{fill, costAnswer, soundAnswer};
+ghost use Rattle.probe.specs.Probe.{wordOf, probeAnswer};
+ghost use Rattle.otterchime.specs.Answers.{CompiledInto, fillWords, costWords, soundWords, probeWords, verdictNumber};
+
+// Compiles a formula's text on a grid into a lent plan of 2,561 words. A refusal alters no word of the plan; words past its own stay.
+#[no_mangle]
+pub extern "C" fn otterchime_compile(
+    text: &[u8],
+    start: u64,
+    step: u64,
+    plan: &mut [u64],
+    answer: &mut [u64; 2],
+)
+    ensures { λ _. ⌜ CompiledInto (now (text .entry)) start step (now (plan .entry)) (now (plan .exit)) (now (answer .exit)) ⌝ }
+{
+    let r = compile::compile(text, start, step, plan);
+    *answer = [r.number, r.place];
+}
+
+// Writes as many points as the table has room and the budget pays for, and leaves the plan shifted by them. A refusal alters neither.
+#[no_mangle]
+pub extern "C" fn otterchime_fill(
+    plan: &mut [u64],
+    table: &mut [u64],
+    budget: u64,
+    answer: &mut [u64; 4],
+)
+    ensures { λ _. ⌜ now (answer .exit) ≡ fillWords (fill 64 (now (plan .entry)) (now (table .entry)) budget .answer) ⌝ }
+    ensures { λ _. ⌜ now (table .exit) ≡ fill 64 (now (plan .entry)) (now (table .entry)) budget .table ⌝ }
+    ensures { λ _. ⌜ now (plan .exit) ≡ fill 64 (now (plan .entry)) (now (table .entry)) budget .plan ⌝ }
+{
+    let r = plan::fill(plan, table, budget);
+    *answer = [r.number, r.place, r.points as u64, r.spent];
+}
+
+// What a plan costs.
+#[no_mangle]
+pub extern "C" fn otterchime_cost(plan: &[u64], answer: &mut [u64; 3])
+    ensures { λ _. ⌜ now (answer .exit) ≡ costWords (costAnswer (now (plan .entry))) ⌝ }
+{
+    let r = plan::cost(plan);
+    *answer = [r.number, r.place, r.cost];
+}
+
+// Whether a plan is sound: the refusal that it would meet, or 0.
+#[no_mangle]
+pub extern "C" fn otterchime_sound(plan: &[u64], answer: &mut [u64; 2])
+    ensures { λ _. ⌜ now (answer .exit) ≡ soundWords (soundAnswer (now (plan .entry))) ⌝ }
+{
+    let r = plan::sound(plan);
+    *answer = [r.number, r.place];
+}
+
+// The word that reads as the offset, with no step that overflows.
+fn offset_word(offset: i64) -> u64
+    ensures { λ r. ⌜ r ≡ wordOf 64 offset ⌝ }
+{
+    if offset < 0 {
+        return u64::MAX - ((-1 - offset) as u64);
+    }
+    offset as u64
+}
+
+fn verdict_number(verdict: Verdict) -> u64
+    ensures { λ r. ⌜ r ≡ verdictNumber verdict ⌝ }
+{
+    match verdict {
+        Verdict::NoVerdict => 0,
+        Verdict::Within => 1,
+        Verdict::Ahead => 2,
+        Verdict::Behind => 3,
+    }
+}
+
+// How far a reading lies from what was expected, and the verdict on it.
+#[no_mangle]
+pub extern "C" fn otterchime_probe(
+    reading: u64,
+    expected: u64,
+    tolerance: u64,
+    answer: &mut [u64; 4],
+)
+    ensures { λ _. ⌜ now (answer .exit) ≡ probeWords (probeAnswer reading expected tolerance) ⌝ }
+{
+    let r = probe::probe(reading, expected, tolerance);
+    let offset = r.offset;
+    let verdict = r.verdict;
+    *answer = [
+        r.number,
+        r.place,
+        offset_word(offset),
+        verdict_number(verdict),
+    ];
+}

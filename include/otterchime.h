@@ -1,0 +1,133 @@
+/* Otterchime: exact tables of formulas over words modulo 2^64, by chains of recurrences.
+ *
+ * This header declares the calls of the static library that `rt staticlib otterchime` writes to target/staticlib/libotterchime.a
+ * (Linux on x86-64). Each call is proved to meet the contract in crates/otterchime/src; docs/CONTRACTS.md lists them.
+ *
+ * What holds for every call:
+ *
+ * - The caller owns all memory. A call allocates nothing, keeps no pointer, reads and writes only what it is given, and ends.
+ *   There is no global state: calls on separate memory may run at the same time in any number of threads.
+ * - A slice is a pointer and a count of elements. A pointer that is given may not be null, even where the count is 0, and is aligned
+ *   for its elements. What is written (plan, table, answer) may not overlap anything else that is given. Every element that is given
+ *   has been initialized, those of plan, table and answer too.
+ * - There is no other condition: any bytes are a text, any words a plan or a chain, any word a length, a budget or a tolerance.
+ * - The answer goes into lent words. Word 0 is the refusal's number, 0 if the call is accepted; word 1 is its place, 0 if there is none.
+ *   Then come the call's own words. Every word of the answer is written by every call.
+ * - A refused call alters no word of plan and table.
+ *
+ * The refusals, in the order in which a call looks for them:
+ *
+ *   number  when                                                     place
+ *     1     plan shorter than 2,561 words                            0
+ *     2     formula over 1,024 bytes                                 1024
+ *     3     more than 32 round brackets open                         the first ( that does it
+ *     4     not in the grammar                                       the first byte after which no grammar text can begin so;
+ *                                                                    the length if the text only stops early
+ *     5     number over 2^64 - 1                                     its first digit, leftmost number
+ *     6     literal exponent over 64                                 its first digit, leftmost
+ *     7     over 128 nodes                                           0
+ *     8     raise with x in the base, or an even base                the ^, leftmost
+ *     9     plan not sound                                           0
+ *    10     tolerance of 2^63 or more                                0
+ *    13     over 17 coefficients                                     0
+ *    14     a chain given with length over 16                        0
+ *    15     chain product, trimmed lengths add over 16               0
+ *
+ * (11 and 12 are the table printer's.) A place is an offset in the formula's bytes, from 0.
+ */
+#ifndef OTTERCHIME_H
+#define OTTERCHIME_H
+
+#include <stddef.h>
+#include <stdint.h>
+
+#ifdef __cplusplus
+extern "C" {
+#endif
+
+/* The words of a plan: its number of rows, 1 to 128, and 20 words for each of 128 rows (kind, a, b, 17 elements). */
+#define OTTERCHIME_PLAN_WORDS 2561
+
+/* The words that hold a chain: a chain of length k has the k + 1 elements f0..fk, and k is at most 16. */
+#define OTTERCHIME_CHAIN_WORDS 17
+
+/* The words of each call's answer. */
+#define OTTERCHIME_COMPILE_ANSWER 2
+#define OTTERCHIME_FILL_ANSWER 4
+#define OTTERCHIME_COST_ANSWER 3
+#define OTTERCHIME_SOUND_ANSWER 2
+#define OTTERCHIME_CHAIN_ANSWER 20
+#define OTTERCHIME_VALUE_ANSWER 3
+#define OTTERCHIME_PROBE_ANSWER 4
+
+/* The probe's verdicts. A refused probe has none. */
+#define OTTERCHIME_NO_VERDICT 0
+#define OTTERCHIME_WITHIN 1
+#define OTTERCHIME_AHEAD 2
+#define OTTERCHIME_BEHIND 3
+
+/* ---- plans ---- */
+
+/* Compiles a formula's text on a grid, x = start + i * step at index i, into a plan.
+ * text: text_length bytes, read only; no byte ends it. plan: plan_length words, at least 2,561 or the call is refused 1.
+ * An accepted call writes the first 2,561 words of the plan and leaves the others as they were.
+ * answer: number, place. Refusals 1 to 8. */
+void otterchime_compile(const uint8_t *text, size_t text_length, uint64_t start, uint64_t step,
+                        uint64_t *plan, size_t plan_length, uint64_t answer[OTTERCHIME_COMPILE_ANSWER]);
+
+/* Writes points to a table: the root's value, and then a shift of every chain, for each. Their count is the lesser of table_length and
+ * the budget divided by the plan's cost + 1, rounded down. The plan is left shifted by the points, so that the next call goes on;
+ * table words after them stay. No room, or budget for none, gives 0 points and is no refusal.
+ * answer: number, place, the points written, the budget spent (points times cost + 1). Refusals 1 and 9, with 0 points and 0 spent. */
+void otterchime_fill(uint64_t *plan, size_t plan_length, uint64_t *table, size_t table_length, uint64_t budget,
+                     uint64_t answer[OTTERCHIME_FILL_ANSWER]);
+
+/* The cost of a plan, by the sum over its rows.
+ * answer: number, place, the cost (0 if refused). Refusals 1 and 9. */
+void otterchime_cost(const uint64_t *plan, size_t plan_length, uint64_t answer[OTTERCHIME_COST_ANSWER]);
+
+/* Whether a plan is sound, so that fill and cost accept it.
+ * answer: number, place. Refusals 1 and 9. */
+void otterchime_sound(const uint64_t *plan, size_t plan_length, uint64_t answer[OTTERCHIME_SOUND_ANSWER]);
+
+/* ---- sum chains ----
+ * A chain is given as 17 words and its length. Words past the length are not read, but the 17 words must be there. Chains are trimmed of
+ * trailing zeros first, and results come back trimmed.
+ * answer of the calls that give a chain: number, place, the chain's length, its 17 element words with 0 past the length. A refused call
+ * gives the constant 0, length 0. */
+
+/* f without its trailing zeros. Refusal 14. */
+void otterchime_trim(const uint64_t f[OTTERCHIME_CHAIN_WORDS], uint64_t k, uint64_t answer[OTTERCHIME_CHAIN_ANSWER]);
+
+/* f after one shift: each element but the last with its neighbour added. Refusal 14. */
+void otterchime_shift(const uint64_t f[OTTERCHIME_CHAIN_WORDS], uint64_t k, uint64_t answer[OTTERCHIME_CHAIN_ANSWER]);
+
+/* The value of f at the present point.
+ * answer: number, place, the word (0 if refused). Refusal 14. */
+void otterchime_value(const uint64_t f[OTTERCHIME_CHAIN_WORDS], uint64_t k, uint64_t answer[OTTERCHIME_VALUE_ANSWER]);
+
+/* f + g, f - g and f * g, f of length k and g of length l. f and g may be the same words. Refusal 14 for either length; the product is
+ * refused 15 where the trimmed lengths add over 16. */
+void otterchime_sum(const uint64_t f[OTTERCHIME_CHAIN_WORDS], uint64_t k, const uint64_t g[OTTERCHIME_CHAIN_WORDS], uint64_t l,
+                    uint64_t answer[OTTERCHIME_CHAIN_ANSWER]);
+void otterchime_difference(const uint64_t f[OTTERCHIME_CHAIN_WORDS], uint64_t k, const uint64_t g[OTTERCHIME_CHAIN_WORDS], uint64_t l,
+                           uint64_t answer[OTTERCHIME_CHAIN_ANSWER]);
+void otterchime_product(const uint64_t f[OTTERCHIME_CHAIN_WORDS], uint64_t k, const uint64_t g[OTTERCHIME_CHAIN_WORDS], uint64_t l,
+                        uint64_t answer[OTTERCHIME_CHAIN_ANSWER]);
+
+/* The chain of the polynomial a0 + a1 * i + a2 * i^2 + .. in the index i. No coefficients are the constant 0. Refusal 13 for over 17. */
+void otterchime_from_coefficients(const uint64_t *coefficients, size_t count, uint64_t answer[OTTERCHIME_CHAIN_ANSWER]);
+
+/* ---- the probe ---- */
+
+/* Holds a reading against what was expected. The offset is reading - expected modulo 2^64, read as a signed number; above the tolerance
+ * it is ahead, below its negative behind, else within.
+ * answer: number, place, the offset as a word (convert it to int64_t), the verdict (OTTERCHIME_WITHIN, ..). Refusal 10, with offset 0
+ * and OTTERCHIME_NO_VERDICT. */
+void otterchime_probe(uint64_t reading, uint64_t expected, uint64_t tolerance, uint64_t answer[OTTERCHIME_PROBE_ANSWER]);
+
+#ifdef __cplusplus
+}
+#endif
+
+#endif

@@ -1,0 +1,44 @@
+//! Exact tables of formulas in x over words modulo 2^64, by chains of recurrences: a safe wrapper of the proved library.
+//!
+//! Every call below goes to the call of the same name in `include/otterchime.h`, whose contract is proved in
+//! `crates/otterchime`. The wrapper lends the memory, and turns each answer's words into a `Result`.
+//!
+//! ```
+//! # #[cfg(otterchime_linked)]
+//! # {
+//! let mut plan = otterchime::Plan::compile(b"x^3", 0, 1).unwrap();
+//! let mut table = [0; 4];
+//! let filled = plan.fill(&mut table, u64::MAX);
+//! assert_eq!((filled.points, filled.spent, table), (4, 16, [0, 1, 8, 27]));
+//! assert_eq!(otterchime::Plan::compile(b"2^(x)", 0, 1).unwrap_err(), otterchime::Refusal::BadRaise { place: 1 });
+//! # }
+//! ```
+//!
+//! The library is an archive for x86-64 Linux that `rt staticlib otterchime` writes. Where it can't be linked, only the types
+//! are here: `LINKED` says which.
+#[cfg(otterchime_linked)]
+mod chains;
+#[cfg(otterchime_linked)]
+mod plans;
+#[cfg(otterchime_linked)]
+mod raw;
+#[cfg(otterchime_linked)]
+mod readings;
+mod refusal;
+
+#[cfg(otterchime_linked)]
+pub use chains::{difference, from_coefficients, product, shift, sum, trim, value, Chain};
+#[cfg(otterchime_linked)]
+pub use plans::{compile, cost, fill, sound, Filled, Plan};
+#[cfg(otterchime_linked)]
+pub use readings::{probe, Probed, Verdict};
+pub use refusal::Refusal;
+
+/// The words of a plan.
+pub const PLAN_WORDS: usize = 2561;
+
+/// The words that hold a sum chain: f0 to f16.
+pub const CHAIN_WORDS: usize = 17;
+
+/// Whether the proved library is linked in.
+pub const LINKED: bool = cfg!(otterchime_linked);
