@@ -12,7 +12,7 @@ use borrow.Author.Tests.{ltb-true, ltb-false, eqb-true}
 use Rattle.formula.specs.Refusals.{count, TooDeep}
 use Rattle.formula.specs.Readers.{DeepAt}
 
-count-append : (b : ℕ) (s r : List ℕ) → count b (s ++ r) ≡ count b s + count b r
+pub count-append : (b : ℕ) (s r : List ℕ) → count b (s ++ r) ≡ count b s + count b r
 unfolding count
 count-append b [] r = omega arith
 count-append b (c ∷ s) r = go (eqb c b) (count-append b s r)

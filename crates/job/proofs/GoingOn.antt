@@ -7,6 +7,7 @@ use native.Mathlib.Omega.{arith}
 use lib.Dec.{eqb}
 use lib.ListN.{length, drop, length-drop}
 use Rattle.formula.specs.Refusals.{count}
+use Rattle.formula.proofs.BracketCount.{count-append}
 use Rattle.fields.specs.Parts.{lineFeed}
 use Rattle.job.specs.declared.Progress.{Progress}
 use Rattle.job.specs.Run.{run}
@@ -71,16 +72,6 @@ ready-again p input b e roomy small = going-ready going roomy
       kept = done .kept;
       numbers = omega arith;
     }
-
-count-append : (b : ℕ) (s r : List ℕ) → count b (s ++ r) ≡ count b s + count b r
-unfolding count
-count-append b [] r = omega arith
-count-append b (c ∷ s) r = go (eqb c b) (count-append b s r)
-  where
-    go : (t : Bool) → count b (s ++ r) ≡ count b s + count b r
-        → cond t (suc (count b (s ++ r))) (count b (s ++ r)) ≡ cond t (suc (count b s)) (count b s) + count b r
-    go true e = omega arith
-    go false e = e
 
 -- A step leaves the run where it can go on again.
 module _ (p : Progress) (line defaults plan table out chunk rest : List ℕ) (o : Outcome) where

@@ -18,7 +18,6 @@ use Rattle.fields.specs.Parts.{picked}
 use Rattle.fields.specs.Judged.{isHeader, judgedDefaults, judgedJob}
 use Rattle.fields.specs.declared.judging.DefaultsLine.{DefaultsLine}
 use Rattle.fields.specs.declared.judging.JobLine.{JobLine}
-use Rattle.fields.proofs.NumbersJudged.{defaults-misshapen}
 use Rattle.fields.proofs.PartsJudged.{job-small}
 use Rattle.printing.specs.Printed.{noLine, judgedPrints, jobPrints, verdictPlan, verdictTable, JobPrinted}
 use Rattle.job.specs.declared.Awaited.{Awaited}
@@ -27,6 +26,7 @@ use Rattle.job.specs.declared.Progress.{Progress}
 use Rattle.job.specs.Run.{theHeader, theDefaults, aJob, linePrints, endPrints}
 use Rattle.job.specs.Steps.{awaitedBy, ended, progressBy, over, defaultsAfter, planAfterLine, tableAfterLine}
 use Rattle.job.proofs.Holding.{put-front}
+use Rattle.job.proofs.HeldBytes.{taken-short}
 
 -- ---- the header
 abbrev HeaderEnded : (l out : List ℕ) → Progress → ℕ → List ℕ → Type 0
@@ -60,11 +60,7 @@ module _ (l defaults out : List ℕ) (r : DefaultsLine) (judged : r ≡ judgedDe
 
 -- A line that is taken fits the buffer that it is kept in.
 pub defaults-short : (l : List ℕ) {r : DefaultsLine} → r ≡ judgedDefaults l → r .ok ≡ true → length l ≤ 4096
-defaults-short l judged good = go (ltb 4096 (length l)) refl
-  where
-    go : (t : Bool) → ltb 4096 (length l) ≡ t → length l ≤ 4096
-    go true e = absurd (false≢true (ap (λ (d : DefaultsLine). d .ok) (defaults-misshapen l (rw e) ∙ sym judged) ∙ good))
-    go false e = ltb-false 4096 (length l) e
+defaults-short l judged good = taken-short l (ap (λ (d : DefaultsLine). d .ok) (sym judged) ∙ good)
 
 -- ---- a job line, by parts of the plan and the table
 abbrev JobEnded : ℕ → (l kept plan table out : List ℕ) → ℕ → (plan′ table′ out′ : List ℕ) → Type 0

@@ -1,14 +1,14 @@
 -- Each way through a step and through the end of the input: refused, within a line, at the end of a line.
 use mathlib.Core.Path.{_≡_, refl, sym, ap, ap₂, subst, _∙_}
-use mathlib.Core.Bool.{Bool, true, false, cond, not, and-eq-true-iff}
+use mathlib.Core.Bool.{Bool, true, false, cond, not}
 use mathlib.Core.List.{List, [], _∷_, _++_, append-nil}
-use Prim.Native.Nat.{ℕ, suc, _+_, _-_, _^_, _≤_, _<_}
+use Prim.Native.Nat.{ℕ, suc, _+_, _-_, _≤_, _<_}
 use native.Mathlib.Nat.{zero-add, sub-zero}
 use native.Mathlib.Omega.{arith}
-use lib.Dec.{eqb, leb, ltb}
+use lib.Dec.{eqb, ltb}
 use lib.ListN.{length, take, drop, take-append-drop}
 use lib.Seq.{length-take-le, drop-length, take-append-seam, drop-drop}
-use borrow.Author.Tests.{not-true, not-false, leb-true, ltb-true, lt-ltb, ne-eqb, eq-eqb}
+use borrow.Author.Tests.{not-true, not-false, lt-ltb, ne-eqb, eq-eqb}
 use Rattle.formula.specs.Refusals.{count}
 use Rattle.plan.proofs.RowLaws.{part, partPut, part-put, tail-part}
 use Rattle.numerals.specs.Writing.{Wrote}
@@ -19,10 +19,11 @@ use Rattle.fields.proofs.PartsInLines.{unparted, none-counted}
 use Rattle.job.specs.declared.Progress.{Progress}
 use Rattle.job.specs.declared.Stepped.{Stepped}
 use Rattle.job.specs.Run.{linePrints, endPrints}
-use Rattle.job.specs.Steps.{awaits, ended, Buffers, mostPrinted, haveRoom, isReachable, ready, heldWith, over}
+use Rattle.job.specs.Steps.{awaits, ended, Buffers, isReachable, ready, heldWith, over}
 use Rattle.job.specs.Steps.{Outcome, refusedStep, lineStep, partStep, stepped, lastLine, withEnd, finished}
 use Rattle.job.proofs.Holding.{Held, put-front, front-length, wrote-fits}
 use Rattle.job.proofs.LinesEnded.{LineEnded}
+use Rattle.job.proofs.Readiness.{Ready, hasRoom, is-ready, refused-step, refused-end}
 
 abbrev pub lent : (line defaults plan table out : List ℕ) → Buffers
 lent line defaults plan table out = record { line = line; defaults = defaults; plan = plan; table = table; out = out }
@@ -49,17 +50,7 @@ feed-counted b (c ∷ s) some = go (eqb c b) some (feed-counted b s)
 -- The buffers are long enough, and the run can have come so far.
 pub record Accepted (p : Progress) (b : Buffers) : Type 0 where
   pub is-ready : ready p b ≡ true
-  pub line-room : 4097 ≤ length (b .line)
-  pub defaults-room : 4096 ≤ length (b .defaults)
-  pub plan-room : 2561 ≤ length (b .plan)
-  pub table-room : 4096 ≤ length (b .table)
-  pub out-room : mostPrinted ≤ length (b .out)
-  pub held-few : p .held ≤ 4097
-  pub kept-few : p .kept ≤ 4096
-  pub number-small : p .number < 2 ^ 64 - 1
-
-abbrev hasRoom : Buffers → Bool
-hasRoom b = haveRoom (length (b .line)) (length (b .defaults)) (length (b .plan)) (length (b .table)) (length (b .out))
+  pub room : Ready p b
 
 module _ (p : Progress) (b : Buffers) {room : Bool} (tested : room ≡ hasRoom b) where
   pub no-room : not room ≡ true → ready p b ≡ false
@@ -73,40 +64,16 @@ module _ (p : Progress) (b : Buffers) {room : Bool} (tested : room ≡ hasRoom b
     not-reachable e = rw (has-room, ← tested-too, not-true far e)
 
     pub accepted : not far ≡ false → Accepted p b
-    accepted e =
-        let is-reachable = sym tested-too ∙ not-false far e in
-        let from-line = and-eq-true-iff (leb 4097 (length (b .line))) _ .0 has-room in
-        let from-defaults = and-eq-true-iff (leb 4096 (length (b .defaults))) _ .0 (from-line .1) in
-        let from-plan = and-eq-true-iff (leb 2561 (length (b .plan))) _ .0 (from-defaults .1) in
-        let from-table = and-eq-true-iff (leb 4096 (length (b .table))) _ .0 (from-plan .1) in
-        let from-held = and-eq-true-iff (leb (p .held) 4097) _ .0 is-reachable in
-        let from-kept = and-eq-true-iff (leb (p .kept) 4096) _ .0 (from-held .1) in
-        record {
-          is-ready = rw (has-room, is-reachable);
-          line-room = leb-true 4097 (length (b .line)) (from-line .0);
-          defaults-room = leb-true 4096 (length (b .defaults)) (from-defaults .0);
-          plan-room = leb-true 2561 (length (b .plan)) (from-plan .0);
-          table-room = leb-true 4096 (length (b .table)) (from-table .0);
-          out-room = leb-true mostPrinted (length (b .out)) (from-table .1);
-          held-few = leb-true (p .held) 4097 (from-held .0);
-          kept-few = leb-true (p .kept) 4096 (from-kept .0);
-          number-small = ltb-true (p .number) (2 ^ 64 - 1) (from-kept .1);
-        }
+    accepted e = let tests : ready p b ≡ true = rw (has-room, sym tested-too ∙ not-false far e) in record { is-ready = tests; room = is-ready p b tests }
 
 -- ---- refused
-refused-both : {p : Progress} {b : Buffers} {r : Stepped} (t : Bool) (o : Outcome) → r ≡ refusedStep p b .answer → t ≡ false
-    → record { answer = r; buffers = b } ≡ cond t o (refusedStep p b)
-refused-both t o e f = rw (e, f)
-
 module _ (p : Progress) (b : Buffers) where
   pub step-refused : (input : List ℕ) {r : Stepped} → r ≡ refusedStep p b .answer → ready p b ≡ false
       → record { answer = r; buffers = b } ≡ stepped p input b
-  unfolding stepped
-  step-refused input e not-ready = refused-both (ready p b) _ e not-ready
+  step-refused input e not-ready = ap (λ r. record { answer = r; buffers = b }) e ∙ sym (refused-step p input b not-ready)
 
   pub end-refused : {r : Stepped} → r ≡ refusedStep p b .answer → ready p b ≡ false → record { answer = r; buffers = b } ≡ finished p b
-  unfolding finished
-  end-refused e not-ready = refused-both (ready p b) _ e not-ready
+  end-refused e not-ready = ap (λ r. record { answer = r; buffers = b }) e ∙ sym (refused-end p b not-ready)
 
   -- ---- a whole line
   abbrev WholeLine : List ℕ → List ℕ → Progress → ℕ → (defaults plan table out : List ℕ) → Type 0

@@ -16,7 +16,7 @@ use Rattle.word.specs.Word as Word
 use Rattle.formula.specs.Tree.{Tree, number, literalPower, raise, nodes, holdsX}
 use Rattle.formula.specs.Grammar.{Formula}
 use Rattle.formula.specs.Value.{valueFor, directValue}
-use Rattle.formula.specs.Refusals.{TooDeep, StopsAt, Part, Fault, too-long, too-deep, not-grammar, Refused, Accepted}
+use Rattle.formula.specs.Refusals.{count, TooDeep, StopsAt, Part, Fault, too-long, too-deep, not-grammar, Refused, Accepted}
 use Rattle.formula.proofs.Answers.{accepted-fits, accepted-base}
 use Rattle.formula.proofs.GrammarScan.{unambiguous, decided}
 use Rattle.chain.specs.declared.ChainAnswer.{ChainAnswer}
@@ -51,11 +51,34 @@ use Rattle.probe.specs.declared.Verdict.the-variants.{NoVerdict}
 use Rattle.probe.specs.Probe as ProbeSpec
 use Rattle.probe.specs.Probe.{half, offset, verdict, verdictWord, ahead, behind, within, probeAnswer}
 use Rattle.probe.proofs.Laws as Probe
+use Rattle.fields.specs.Parts.{lineFeed}
+use Rattle.job.specs.declared.Progress.{Progress}
+use Rattle.job.specs.Run.{run}
+use Rattle.job.specs.Steps.{started, Buffers, ready, stepped, finished}
+use Rattle.job.proofs.Readiness.{refused-step, refused-end}
+use Rattle.job.proofs.Adding.{Runs, adds-up}
+use Rattle.job.proofs.GoingOn.{Roomy, every-input-runs}
 use Rattle.otterchime.proofs.Bridges as Bridges
 
 -- ======== Demand 1: "Formulas, job lines, plans and lent tables may hold anything at all. The library answers or refuses, with the number and
 -- place that document 01 fixes, at the first check that applies. A refused call changes nothing it was lent."
--- Job lines are read by the table printer alone: job/proofs/Adding.antt and GoingOn.antt speak of every input.
+-- ---- job files
+-- Whatever bytes a job file holds, `run` says what it prints; all that accepted calls write over it, however it is cut, is that.
+pub job-file-prints : {line defaults input output : List ℕ} → Runs started line defaults input output → output ≡ run input
+job-file-prints = adds-up
+
+-- With buffers that are long enough, calls over it come to its end.
+pub job-file-runs : {plan table out : List ℕ} → Roomy plan table out → (line defaults input : List ℕ)
+    → 4097 ≤ length line → 4096 ≤ length defaults → count lineFeed input < 2 ^ 64 - 1 → Runs started line defaults input (run input)
+job-file-runs roomy = every-input-runs roomy
+
+-- A call that is refused changes nothing it was lent.
+pub refused-step-keeps : (p : Progress) (input : List ℕ) (b : Buffers) → ready p b ≡ false → stepped p input b .buffers ≡ b
+refused-step-keeps p input b e = ap (λ o. o .buffers) (refused-step p input b e)
+
+pub refused-end-keeps : (p : Progress) (b : Buffers) → ready p b ≡ false → finished p b .buffers ≡ b
+refused-end-keeps p b e = ap (λ o. o .buffers) (refused-end p b e)
+
 -- ---- compile
 -- Whatever the text, the grid and the lent plan hold, there is an answer.
 pub compile-answers : (s : List ℕ) (start step : ℕ) (lent : List ℕ) → (r : CompileAnswer) × (q : List ℕ) × Compiling 64 s start step lent r q

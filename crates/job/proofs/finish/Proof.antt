@@ -42,8 +42,8 @@ last-line-requires c κs =
     let so =
     accepted (args .progress) b (tests .before .before .before .have-room .ensures) (tests .before .before .if1 .left)
     (tests .before .is-reachable .ensures) (tests .if2 .left) in (
-      omega (arith, so .held-few, so .line-room),
-      (so .defaults-room, (so .kept-few, (so .number-small, (so .plan-room, (so .table-room, so .out-room))))),
+      omega (arith, so .room .held, so .room .line),
+      (so .room .defaults, (so .room .kept, (so .room .number, (so .room .plan, (so .room .table, so .room .out))))),
     )
 
 sub-end-input : tie.Need-sub-end-input

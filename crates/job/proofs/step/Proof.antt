@@ -56,7 +56,7 @@ hold-requires c κs =
     let so =
     accepted (args .progress) b (tests .before .before .before .have-room .ensures) (tests .before .before .if1 .left)
     (tests .before .is-reachable .ensures) (tests .if2 .left) in
-    (so .line-room, so .held-few)
+    (so .room .line, so .room .held)
 
 same-length : tie.Need-same-length
 same-length c = search needs
@@ -93,7 +93,7 @@ part-end-line-end c =
     let so =
     accepted (args .progress) b (tests .before .before .before .have-room .ensures) (tests .before .before .if1 .left)
     (tests .before .is-reachable .ensures) (tests .if2 .left) in
-    omega (arith, so .line-room, held-at-most (args .progress .held) (args .line .now) _ (c .before .before .before .before .hold .ensures))
+    omega (arith, so .room .line, held-at-most (args .progress .held) (args .line .now) _ (c .before .before .before .before .hold .ensures))
 
 end-line-requires : tie.Need-end-line-requires
 end-line-requires c κs =
@@ -103,7 +103,7 @@ end-line-requires c κs =
     let so =
     accepted (args .progress) b (tests .before .before .before .have-room .ensures) (tests .before .before .if1 .left)
     (tests .before .is-reachable .ensures) (tests .if2 .left) in
-    (so .defaults-room, (so .kept-few, (so .number-small, (so .plan-room, (so .table-room, omega (arith, so .out-room))))))
+    (so .room .defaults, (so .room .kept, (so .room .number, (so .room .plan, (so .room .table, omega (arith, so .room .out))))))
 
 same-length-2 : tie.Need-same-length-2
 same-length-2 c = search needs
