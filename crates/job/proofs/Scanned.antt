@@ -12,7 +12,9 @@ use lib.Seq.{append-snoc}
 use Rattle.formula.specs.Refusals.{count}
 use Rattle.numerals.specs.NumberField.{isEmpty}
 use Rattle.fields.specs.Parts.{lineFeed, inFirst, lines, before}
-use Rattle.job.specs.Run.{Awaits, theHeader, linePrints, afterLine, endPrints, linesPrint, run}
+use Rattle.fields.specs.Judged.{isHeader, judgedDefaults}
+use Rattle.printing.specs.Printed.{noLine}
+use Rattle.job.specs.Run.{Awaits, theHeader, theDefaults, nothing, linePrints, afterLine, endPrints, linesPrint, run}
 
 -- The bytes held are a line at the end of the input, if there are any.
 unfoldable pub scan : Awaits → List ℕ → List ℕ → List ℕ
@@ -101,3 +103,18 @@ scan-line awaits held (c ∷ s) rest some = go (eqb c lineFeed) some (scan-line 
       where
         step : suc (length (before lineFeed s) + 1) ≡ suc (length (before lineFeed s)) + 1
         step = omega arith
+
+-- ---- "A refused header or defaults line prints `no`, 0, refusal, place and ends the run": whatever lines follow, nothing more is printed.
+nothing-prints : (more : List (List ℕ)) → linesPrint nothing more ≡ []
+unfolding linePrints afterLine endPrints linesPrint
+nothing-prints [] = refl
+nothing-prints (l ∷ more) = nothing-prints more
+
+pub refused-header-ends : (l : List ℕ) (more : List (List ℕ)) → isHeader l ≡ false → linesPrint theHeader (l ∷ more) ≡ noLine 0 12 0
+unfolding linePrints afterLine linesPrint
+refused-header-ends l more e = rw (e, nothing-prints more) (append-nil (noLine 0 12 0))
+
+pub refused-defaults-ends : (l : List ℕ) (more : List (List ℕ)) → judgedDefaults l .ok ≡ false
+    → linesPrint theDefaults (l ∷ more) ≡ noLine 0 11 (judgedDefaults l .place)
+unfolding linePrints afterLine linesPrint
+refused-defaults-ends l more e = rw (e, nothing-prints more) (append-nil (noLine 0 11 (judgedDefaults l .place)))
