@@ -1,0 +1,233 @@
+// The table printer: reads a job file from standard input and writes what it prints to standard output.
+// What a run prints is decided in `job`, step by step; here bytes are read and written, and buffers are lent.
+use job::Progress;
+use job::Stepped;
+use libc::STDIN_FILENO;
+use libc::STDOUT_FILENO;
+ghost use mathlib.Core.Path.{_≡_};
+ghost use mathlib.Core.Bool.{true};
+ghost use Prim.Native.Nat.{_+_, _≤_};
+ghost use lib.ListN.{length};
+
+// The room that a step asks for in the output buffer.
+const MOST_PRINTED: usize = 172166;
+
+// Whether the writing goes on, and how much of the output buffer is filled.
+struct Room {
+    ok: bool,
+    filled: usize,
+}
+
+// Whether the run goes on, where it stands, how much input the last step used, and how much of the output buffer is filled.
+struct Going {
+    ok: bool,
+    progress: Progress,
+    used: usize,
+    filled: usize,
+}
+
+// Writes the bytes. A failure is told on standard error.
+fn write(bytes: &[u8]) -> bool {
+    let is_written = io::write_all(STDOUT_FILENO, bytes);
+    if !is_written {
+        os::fail(&[b'w', b'r', b'i', b't', b'e']);
+    }
+    is_written
+}
+
+// Reads into the buffer: how many bytes came, 0 at the end of the input. A failure is told on standard error and ends the input.
+fn read(input: &mut [u8]) -> usize
+    ensures { λ r. ⌜ r ≤ length (now (input .exit)) ⌝ }
+{
+    let got = libc::read(STDIN_FILENO, input);
+    if got < 0 {
+        os::fail(&[b'r', b'e', b'a', b'd']);
+    }
+    io::count(got, input)
+}
+
+// Writes what fills the output buffer where a step would find too little room behind it.
+fn make_room(out: &[u8], filled: usize) -> Room
+    requires { ⌜ filled ≤ length (now out) ⌝ }
+    ensures { λ r. ⌜ r .filled ≤ length (now (out .entry)) ⌝ }
+{
+    if MOST_PRINTED <= out.len() - filled {
+        return Room { ok: true, filled };
+    }
+    let ok = write(&out[0..filled]);
+    Room { ok, filled: 0 }
+}
+
+// A step of the run that writes behind the filled part of the output buffer.
+fn step(
+    progress: Progress,
+    filled: usize,
+    input: &[u8],
+    line: &mut [u8],
+    defaults: &mut [u8],
+    plan: &mut [u64],
+    table: &mut [u64],
+    out: &mut [u8],
+) -> Stepped
+    requires { ⌜ filled ≤ length (now out) ⌝ }
+    ensures { λ r. ⌜ filled + r .wrote ≤ length (now (out .exit)) ⌝ }
+    ensures { λ r. ⌜ r .used ≤ length (now (input .entry)) ⌝ }
+    ensures { λ r. ⌜ (r .ok ≡ true → 1 ≤ length (now (input .entry)) → 1 ≤ r .used) ⌝ }
+{
+    job::step(
+        progress,
+        input,
+        line,
+        defaults,
+        plan,
+        table,
+        &mut out[filled..],
+    )
+}
+
+// What the end of the input prints, written behind the filled part of the output buffer.
+fn finish(
+    progress: Progress,
+    filled: usize,
+    line: &[u8],
+    defaults: &mut [u8],
+    plan: &mut [u64],
+    table: &mut [u64],
+    out: &mut [u8],
+) -> Stepped
+    requires { ⌜ filled ≤ length (now out) ⌝ }
+    ensures { λ r. ⌜ filled + r .wrote ≤ length (now (out .exit)) ⌝ }
+{
+    job::finish(progress, line, defaults, plan, table, &mut out[filled..])
+}
+
+// A step with room made for it.
+fn turn(
+    going: Going,
+    input: &[u8],
+    line: &mut [u8],
+    defaults: &mut [u8],
+    plan: &mut [u64],
+    table: &mut [u64],
+    out: &mut [u8],
+) -> Going
+    requires { ⌜ going .filled ≤ length (now out) ⌝ }
+    ensures { λ r. ⌜ r .filled ≤ length (now (out .exit)) ⌝ }
+    ensures { λ r. ⌜ r .used ≤ length (now (input .entry)) ⌝ }
+    ensures { λ r. ⌜ (r .ok ≡ true → 1 ≤ length (now (input .entry)) → 1 ≤ r .used) ⌝ }
+{
+    let progress = going.progress;
+    let room = make_room(out, going.filled);
+    let begin = room.filled;
+    if !room.ok {
+        return Going {
+            ok: false,
+            progress,
+            used: 0,
+            filled: begin,
+        };
+    }
+    let stepped = step(progress, begin, input, line, defaults, plan, table, out);
+    let reached = stepped.progress;
+    let filled = begin + stepped.wrote;
+    Going {
+        ok: stepped.ok,
+        progress: reached,
+        used: stepped.used,
+        filled,
+    }
+}
+
+// All steps over some input.
+fn take(
+    going: Going,
+    input: &[u8],
+    line: &mut [u8],
+    defaults: &mut [u8],
+    plan: &mut [u64],
+    table: &mut [u64],
+    out: &mut [u8],
+) -> Going
+    requires { ⌜ going .filled ≤ length (now out) ⌝ }
+    ensures { λ r. ⌜ r .filled ≤ length (now (out .exit)) ⌝ }
+{
+    let mut reached = going;
+    let mut at = 0;
+    while at < input.len() {
+        let next = turn(reached, &input[at..], line, defaults, plan, table, out);
+        if !next.ok {
+            return next;
+        }
+        reached = next;
+        at += next.used;
+    }
+    reached
+}
+
+// The end of the input: what it prints, and all that is not written yet.
+fn end(
+    going: Going,
+    line: &[u8],
+    defaults: &mut [u8],
+    plan: &mut [u64],
+    table: &mut [u64],
+    out: &mut [u8],
+)
+    requires { ⌜ going .filled ≤ length (now out) ⌝ }
+{
+    let room = make_room(out, going.filled);
+    if !room.ok {
+        return;
+    }
+    let begin = room.filled;
+    let last = finish(going.progress, begin, line, defaults, plan, table, out);
+    let filled = begin + last.wrote;
+    write(&out[0..filled]);
+}
+
+// Reads to the end of the input or until a write fails. A proved loop has to end, and nothing says that an input does: the loop counts its turns down,
+// from a number that no run uses up.
+fn run(
+    input: &mut [u8],
+    line: &mut [u8],
+    defaults: &mut [u8],
+    plan: &mut [u64],
+    table: &mut [u64],
+    out: &mut [u8],
+) {
+    let mut going = Going {
+        ok: true,
+        progress: job::start(),
+        used: 0,
+        filled: 0,
+    };
+    let mut got = read(input);
+    let mut turns = u64::MAX;
+    while got > 0 && turns > 0 {
+        let next = take(going, &input[0..got], line, defaults, plan, table, out);
+        if !next.ok {
+            return;
+        }
+        going = next;
+        got = read(input);
+        turns -= 1;
+    }
+    end(going, line, defaults, plan, table, out);
+}
+
+fn main() {
+    let mut input = io::large_buffer();
+    let mut line = [0u8; 4097];
+    let mut defaults = [0u8; 4096];
+    let mut plan = [0u64; 2561];
+    let mut table = [0u64; 4096];
+    let mut out = [0u8; 262144];
+    run(
+        &mut input,
+        &mut line,
+        &mut defaults,
+        &mut plan,
+        &mut table,
+        &mut out,
+    );
+}
