@@ -19,7 +19,8 @@ finish-requires c κs = search needs
 add-filled : tie.Need-add-filled
 add-filled c =
     let finished = c .before .before .before .before .before .before .before .before .before in
-    omega (arith, finished .finish .ensures, finished .before .before .before .before .before .before .before .before .before .before .before .before .before .before .good .1 .1 .1 .1 .1)
+    let start = finished .before .before .before .before .before .before .before .before .before .before .before .before .before .before in
+    omega (arith, finished .finish .ensures, start .good .1 .1 .1 .1 .1)
 
 sub-write : tie.Need-sub-write
 sub-write c = search needs

@@ -32,7 +32,8 @@ same-length-4 c = search needs
 returns : tie.Need-returns
 returns c =
     let finished = c .before .before .before .before .before .before .before .before in
-    let within = end-within (finished .before .before .before .before .before .before .before .before .before .before .args .progress) (finished .finish .ensures) in
+    let start = finished .before .before .before .before .before .before .before .before .before .before in
+    let within = end-within (start .args .progress) (finished .finish .ensures) in
     omega (arith, within .wrote, finished .finish .kept)
 
 pub finish-spec : {M : Type 1} → statement M

@@ -66,7 +66,8 @@ sub-turns c = search needs
 
 loop-less : tie.Need-loop-less Inv-loop μ-loop
 loop-less c =
-    let more = c .before .before .before .before .before .before .before .before .before .before .before .before .before .before .before .before .before .before .before .before .before .before .before .before in
+    let taken = c .before .before .before .before .before .before .before .before .before .before .before .before .before .before in
+    let more = taken .before .before .before .before .before .before .before .before .before .before in
     omega (arith, ltb-true 0 (more .before .before .loop .turns) (more .if1 .taken))
 
 loop-again : tie.Need-loop-again Inv-loop μ-loop

@@ -35,7 +35,8 @@ same-length-5 c = search needs
 returns : tie.Need-returns
 returns c =
     let stepped = c .before .before .before .before .before .before .before .before .before .before in
-    let within = step-within (stepped .before .before .before .before .before .before .before .before .before .before .before .before .args .progress) (stepped .step .ensures) in
+    let start = stepped .before .before .before .before .before .before .before .before .before .before .before .before in
+    let within = step-within (start .args .progress) (stepped .step .ensures) in
     (omega (arith, within .wrote, stepped .step .kept), (within .used, within .moves))
 
 pub step-spec : {M : Type 1} → statement M

@@ -52,7 +52,11 @@ returns c = search needs
 add-at : tie.Need-add-at Inv-loop μ-loop
 add-at c =
     let turned = c .before .before .before .before .before .before .before .before .before .before .before .before .before in
-    omega (arith, turned .turn .ensures .1 .0, turned .before .before .before .before .before .before .before .before .before .before .before .before .before .before .before .good .1 .0)
+    omega (
+      arith,
+      turned .turn .ensures .1 .0,
+      turned .before .before .before .before .before .before .before .before .before .before .before .before .before .before .before .good .1 .0,
+    )
 
 loop-less : tie.Need-loop-less Inv-loop μ-loop
 loop-less c =

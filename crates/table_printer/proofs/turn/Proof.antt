@@ -13,7 +13,7 @@ same-length : tie.Need-same-length
 same-length c = search needs
 
 returns : tie.Need-returns
-returns c = ((c .before .before .make-room .ensures), (omega arith, λ ok. absurd (true≢false (sym ok))))
+returns c = (c .before .before .make-room .ensures, (omega arith, λ ok. absurd (true≢false (sym ok))))
 
 step-requires : tie.Need-step-requires
 step-requires c κs = search needs
@@ -21,7 +21,9 @@ step-requires c κs = search needs
 add-filled : tie.Need-add-filled
 add-filled c =
     let stepped = c .before .before .before .before .before .before .before .before .before .before .before .before in
-    omega (arith, stepped .step .ensures .0, stepped .before .before .before .before .before .before .before .before .before .before .before .before .before .before .before .before .before .good .1 .1 .1 .1 .1 .1)
+    let room = stepped .before .before .before .before .before .before .before in
+    let start = room .before .before .before .before .before .before .before .before .before .before in
+    omega (arith, stepped .step .ensures .0, start .good .1 .1 .1 .1 .1 .1)
 
 same-length-2 : tie.Need-same-length-2
 same-length-2 c = search needs
