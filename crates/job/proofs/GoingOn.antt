@@ -1,10 +1,9 @@
 -- The calls of a run never get stuck: wherever calls from the start have led, the next one is accepted, and every input has a run to its end.
 use mathlib.Core.Path.{_≡_, refl, sym, ap, _∙_, subst}
-use mathlib.Core.Bool.{Bool, true, false, cond}
+use mathlib.Core.Bool.{true}
 use mathlib.Core.List.{List, [], _∷_, _++_, append-nil}
 use Prim.Native.Nat.{ℕ, zero, suc, _+_, _-_, _^_, _≤_, _<_}
 use native.Mathlib.Omega.{arith}
-use lib.Dec.{eqb}
 use lib.ListN.{length, drop, length-drop}
 use Rattle.formula.specs.Refusals.{count}
 use Rattle.formula.proofs.BracketCount.{count-append}

@@ -1,12 +1,10 @@
 -- Each way through a whole line and through the end of the input: what was judged decides what is printed, kept and awaited.
 use mathlib.Core.Path.{_≡_, refl, sym, ap, ap₂, subst, _∙_}
-use mathlib.Core.Bool.{Bool, true, false, cond, false≢true}
+use mathlib.Core.Bool.{Bool, true, false, cond}
 use mathlib.Core.List.{List, _++_}
 use Prim.Native.Nat.{ℕ, _+_, _≤_}
 use native.Mathlib.Nat.{sub-zero}
-use lib.Dec.{ltb}
 use lib.ListN.{length, take, drop, take-append-drop}
-use borrow.Author.Tests.{ltb-false}
 use Rattle.formula.specs.Verdict.{Verdict, refused, accepted, verdict}
 use Rattle.plan.specs.Filling.{pointValues}
 use Rattle.plan.proofs.RowLaws.{part, partPut}
