@@ -77,7 +77,7 @@ judgedNumbers start step count =
     })
     (jobRefused (badNumber start step count))
 
--- "4,096 bytes are counted .. on the job's own line, before the defaults are put in."
+-- The shape is that of the job's own line, before defaults are put in; "then start, step, count bad", in the fields taken.
 unfoldable pub judgedJob : List ℕ → List ℕ → JobLine
 judgedJob l defaults =
     cond (isMisshapen l) (jobRefused 0)

@@ -1,9 +1,7 @@
 -- A folded tree: a constant, a trimmed chain, or an operator that stays a row of the plan. Its rules are in Folding.antt.
 use mathlib.Core.Bool.{Bool, true, false}
 use mathlib.Core.List.{List, [], _∷_}
-use Prim.Native.Nat.{ℕ, zero, suc, _+_, _-_, _%_, _^_}
-use lib.Dec.{eqb}
-use lib.ListN.{length}
+use Prim.Native.Nat.{ℕ}
 use Rattle.word.specs.Word as Word
 use Rattle.chain.specs.Chain as Chain
 use Rattle.chain.specs.SumChain.{sumAt}

@@ -1,10 +1,10 @@
 -- Folding, from the bottom of the tree up: one definition for each operator, with 01's rules in 01's order, each under its sentence.
 -- "With C constant, S sum chain, P product chain"; A is any operand. "Results are trimmed." Words are computed modulo 2^w.
 use mathlib.Core.Bool.{Bool, cond, _&&_, _||_}
-use mathlib.Core.List.{List, [], _∷_, map}
+use mathlib.Core.List.{[], _∷_, map}
 use Prim.Native.Nat.{ℕ, _+_, _-_, _*_}
 use lib.Dec.{eqb, leb}
-use lib.ListN.{length, getD}
+use lib.ListN.{length}
 use Rattle.word.specs.Word as Word
 use Rattle.chain.specs.Chain.{value, rest, words}
 use Rattle.chain.specs.SumChain as SumChain
