@@ -22,7 +22,7 @@ pub fn compile(text: &[u8], start: u64, step: u64, plan: &mut [u64]) -> CompileA
             place: 0,
         };
     }
-    let read = formula::read(text, &mut plan[2304..2561]);
+    let read = reading::read(text, &mut plan[2304..2561]);
     if read.number != 0 {
         return CompileAnswer {
             number: read.number,

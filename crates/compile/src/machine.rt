@@ -18,10 +18,10 @@ fn put_pair(plan: &mut [u64], r: usize, first: u64, second: u64)
     requires { ⌜ r < 128 ⌝ }
     ensures { λ _. ⌜ now (plan .exit) ≡ placed (now (plan .entry)) r (trimmedSum (first ∷ second ∷ [])) ⌝ }
 {
-    let mut f = chain::zeros();
+    let mut f = arrays::zeros();
     f[0] = first;
     f[1] = second;
-    let t = chain::trim(f, 1);
+    let t = arithmetic::trim(f, 1);
     let elements = t.elements;
     rows::put_chain(plan, r, 1, t.length, elements);
 }

@@ -51,7 +51,7 @@ fn compile(formula: &[u8], start: u64, step: u64, lent: usize, plan: &mut [u64])
     paint(plan);
     let answer = compile::compile(formula, start, step, &mut plan[0..lent]);
     print::answer(b"\tcompile ", answer.number, answer.place);
-    let cost = plan::cost(&plan[0..lent]);
+    let cost = filling::cost(&plan[0..lent]);
     if answer.number == 0 {
         print_plan(plan, cost);
     }

@@ -13,7 +13,7 @@ const CORNERS: [u64; 6] = [0, 1, 5, 4294967296, 9223372036854775808, MOST];
 fn fill_part(plan: &mut [u64], table: &mut [u64], from: usize, to: usize, budget: u64) {
     if from <= to {
         if to <= table.len() {
-            plan::fill(plan, &mut table[from..to], budget);
+            filling::fill(plan, &mut table[from..to], budget);
         }
     }
 }
@@ -67,15 +67,15 @@ fn print_plan(answer: compile::CompileAnswer, plan: &[u64], cost: u64) {
 // Compiles, prints the plan and fills the table in one call.
 fn fill_once(formula: &[u8], start: u64, step: u64, plan: &mut [u64], table: &mut [u64]) {
     let answer = compile::compile(formula, start, step, plan);
-    let cost = plan::cost(plan);
+    let cost = filling::cost(plan);
     print_plan(answer, plan, cost.cost);
-    plan::fill(plan, table, MOST);
+    filling::fill(plan, table, MOST);
 }
 
 // Compiles again and fills the table in several calls.
 fn fill_again(formula: &[u8], start: u64, step: u64, plan: &mut [u64], table: &mut [u64]) {
     compile::compile(formula, start, step, plan);
-    let cost = plan::cost(plan);
+    let cost = filling::cost(plan);
     fill_parts(plan, table, cost.cost);
 }
 

@@ -1,7 +1,7 @@
 // Runs the cases of the rules and both sides of every limit: one line each, a name, a tab and what the library answers.
 // The cases are tables in a module for each subject; what they must answer is in the file `stdout`.
 mod chains;
-mod coefficients;
+mod coefficient_lists;
 mod compiles;
 mod compiling;
 mod documents;
@@ -27,7 +27,7 @@ fn main() {
     chains::run();
     sums::run();
     products::run();
-    coefficients::run();
+    coefficient_lists::run();
     documents::run();
     sequences::run();
     probes::run();

@@ -118,7 +118,7 @@ fn joined(s: Stack, answer: ChainAnswer) -> Stack {
 // The chain of the coefficients f0 to its length; at most 17 of them.
 fn coefficients(f: Given) -> ChainAnswer {
     let words = f.words;
-    chain::from_coefficients(prefix(&words, counted(f.length)))
+    coefficients::from_coefficients(prefix(&words, counted(f.length)))
 }
 
 fn prefix(words: &[u64], count: usize) -> &[u64] {
@@ -160,11 +160,11 @@ fn operator(s: Stack, mark: u8) -> Stack {
     let g = top.words;
     let l = top.length;
     match mark {
-        b'+' => joined(s, chain::sum(f, k, g, l)),
-        b'-' => joined(s, chain::difference(f, k, g, l)),
-        b'*' => joined(s, chain::product(f, k, g, l)),
-        b'E' => replaced(s, chain::shift(g, l)),
-        b'T' => replaced(s, chain::trim(g, l)),
+        b'+' => joined(s, arithmetic::sum(f, k, g, l)),
+        b'-' => joined(s, arithmetic::difference(f, k, g, l)),
+        b'*' => joined(s, arithmetic::product(f, k, g, l)),
+        b'E' => replaced(s, arithmetic::shift(g, l)),
+        b'T' => replaced(s, arithmetic::trim(g, l)),
         b'C' => replaced(s, coefficients(top)),
         _ => push(s, top),
     }

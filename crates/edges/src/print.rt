@@ -94,9 +94,9 @@ pub fn sequence(name: &[u8], start: Given) {
 // Prints the value at index i and shifts the chain on.
 fn step(f: Given, i: usize) -> Given {
     let words = f.words;
-    let present = chain::value(words, f.length);
+    let present = arithmetic::value(words, f.length);
     element(present.word, i, 19);
-    let next = chain::shift(words, f.length);
+    let next = arithmetic::shift(words, f.length);
     let shifted = next.elements;
     Given {
         words: shifted,

@@ -67,9 +67,9 @@ fn fill(token: &[u8], lent: usize, plan: &mut [u64], table: &mut [u64]) {
     let asked = list.words;
     let held = at_most(lent, plan.len());
     let room = at_most(asked[0] as usize, table.len());
-    let sound = plan::sound(&plan[0..held]);
-    let cost = plan::cost(&plan[0..held]);
-    let answer = plan::fill(&mut plan[0..held], &mut table[0..room], asked[1]);
+    let sound = soundness::sound(&plan[0..held]);
+    let cost = filling::cost(&plan[0..held]);
+    let answer = filling::fill(&mut plan[0..held], &mut table[0..room], asked[1]);
     print_answers(sound, cost, answer);
     print_lent(table, answer.points, plan);
 }

@@ -58,7 +58,7 @@ fn value_case(name: &[u8], body: &[u8]) {
     let s = postfix::work(body);
     let top = s.top;
     let words = top.words;
-    print::value(name, chain::value(words, top.length));
+    print::value(name, arithmetic::value(words, top.length));
 }
 
 fn sequence_case(name: &[u8], body: &[u8]) {
@@ -96,7 +96,7 @@ fn lent(body: &[u8], most: usize) -> usize
 fn read_case(name: &[u8], body: &[u8], bytes: &mut [u8], tree: &mut [u64]) {
     let length = notation::expand(name, bytes);
     let count = lent(body, tree.len());
-    let answer = formula::read(text::part(bytes, 0, length), &mut tree[0..count]);
+    let answer = reading::read(text::part(bytes, 0, length), &mut tree[0..count]);
     print::reading(name, body, answer, tree);
 }
 

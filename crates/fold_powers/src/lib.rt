@@ -24,11 +24,11 @@ fn power_of(f: [u64; 17], k: usize, n: u64) -> ChainAnswer
     requires { ⌜ k * n ≤ 16 ⌝ }
     ensures { λ r. ⌜ r ≡ answered (chain (trimmed 0 (words 64 (power (take (k + 1) f) n)))) ⌝ }
 {
-    let mut r = chain::trim(f, k);
+    let mut r = arithmetic::trim(f, k);
     let mut i = 1;
     while i < n {
         let elements = r.elements;
-        let next = chain::product(elements, r.length, f, k);
+        let next = arithmetic::product(elements, r.length, f, k);
         r = next;
         i += 1;
     }
@@ -39,7 +39,7 @@ fn power_of(f: [u64; 17], k: usize, n: u64) -> ChainAnswer
 fn power_each(f: [u64; 17], n: u64) -> [u64; 17]
     ensures { λ r. ⌜ r ≡ words 64 (powerOfEach f n) ⌝ }
 {
-    let mut r = chain::zeros();
+    let mut r = arrays::zeros();
     let mut j = 0;
     while j < 17 {
         r[j] = word::power(f[j], n);
@@ -52,7 +52,7 @@ fn power_each(f: [u64; 17], n: u64) -> [u64; 17]
 fn raise_each(c: u64, f: [u64; 17]) -> [u64; 17]
     ensures { λ r. ⌜ r ≡ words 64 (raised c f) ⌝ }
 {
-    let mut r = chain::zeros();
+    let mut r = arrays::zeros();
     let mut i = 0;
     while i < 17 {
         r[i] = word::power(c, f[i]);

@@ -25,7 +25,7 @@ ghost use Rattle.operands.specs.Operands.{Two, FoldsBoth};
 fn joint(f: [u64; 17], g: [u64; 17]) -> [u64; 17]
     ensures { λ r. ⌜ r ≡ words 64 (jointProduct f g) ⌝ }
 {
-    let mut r = chain::zeros();
+    let mut r = arrays::zeros();
     let mut j = 0;
     while j < 17 {
         r[j] = word::times(f[j], g[j]);
@@ -136,7 +136,7 @@ fn put_product_of_sums(plan: &mut [u64], r: usize, a: usize, b: usize)
     let k = length_of(plan, a);
     let g = rows::elements(plan, b);
     let l = length_of(plan, b);
-    put_sum(plan, r, chain::product(f, k, g, l));
+    put_sum(plan, r, arithmetic::product(f, k, g, l));
 }
 
 // The product of the product chains in rows a and b, in row r.

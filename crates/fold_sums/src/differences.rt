@@ -22,7 +22,11 @@ pub fn fold_minus(plan: &mut [u64], first: usize, end: usize) -> usize
     if root_kind < 2 {
         let f = rows::elements(plan, root);
         let k = length_of(plan, root);
-        put_sum(plan, first, chain::difference(chain::zeros(), 0, f, k));
+        put_sum(
+            plan,
+            first,
+            arithmetic::difference(arrays::zeros(), 0, f, k),
+        );
         return first + 1;
     }
     if root_kind == 2 {
@@ -50,7 +54,7 @@ pub fn fold_difference(plan: &mut [u64], left: usize, middle: usize, end: usize)
         let k = length_of(plan, left_root);
         let g = rows::elements(plan, right_root);
         let l = length_of(plan, right_root);
-        put_sum(plan, left, chain::difference(f, k, g, l));
+        put_sum(plan, left, arithmetic::difference(f, k, g, l));
         return left + 1;
     }
     if is_constant(plan, right_root, 0) {

@@ -45,7 +45,7 @@ pub fn fold_sum(plan: &mut [u64], left: usize, middle: usize, end: usize) -> usi
         let k = length_of(plan, left_root);
         let g = rows::elements(plan, right_root);
         let l = length_of(plan, right_root);
-        put_sum(plan, left, chain::sum(f, k, g, l));
+        put_sum(plan, left, arithmetic::sum(f, k, g, l));
         return left + 1;
     }
     if is_constant(plan, right_root, 0) {

@@ -7,7 +7,7 @@ use native.Mathlib.Nat.{zero-add}
 use native.Mathlib.Omega.{arith}
 use lib.Dec.{ltb}
 use lib.ListN.{length, take, drop, set, replicate}
-use Rattle.formula.specs.declared.readers.Found.{Found}
+use Rattle.formula.specs.declared.Found.{Found}
 use Rattle.formula.specs.Tree.{Tree, nodes}
 use Rattle.formula.specs.Words.{treeWords}
 use Rattle.formula.specs.Refusals.{TooDeep, Accepted}

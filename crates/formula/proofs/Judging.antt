@@ -9,7 +9,7 @@ use lib.Dec.{ltb}
 use lib.ListN.{length, getD, take, drop, set, replicate, length-replicate}
 use lib.Seq.{drop-length, drop-at, take-at, length-take-le}
 use borrow.Author.Tests.{ltb-true, ltb-false}
-use Rattle.formula.specs.declared.readers.Found.{Found}
+use Rattle.formula.specs.declared.Found.{Found}
 use Rattle.formula.specs.declared.ReadAnswer.{ReadAnswer}
 use Rattle.formula.specs.Tree.{Tree, nodes}
 use Rattle.formula.specs.Grammar.{Formula}

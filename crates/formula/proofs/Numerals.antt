@@ -5,7 +5,7 @@ use Prim.Native.Nat.{ℕ, _+_, _-_, _*_, _/_, _%_, _^_, _≤_, _<_}
 use native.Mathlib.Omega.{arith}
 use lib.Dec.{leb}
 use borrow.Author.Tests.{lt-ltb, le-ltb, le-leb, lt-leb, leb-true, leb-false}
-use Rattle.formula.specs.declared.numbers.Numeral.{Numeral}
+use Rattle.formula.specs.declared.Numeral.{Numeral}
 use Rattle.formula.specs.Readers.{kept, Pushed}
 
 over : (v : ℕ) → 2 ^ 64 ≤ v → (kept 64 v ≡ 0) × (leb (2 ^ 64) v ≡ true)

@@ -8,8 +8,8 @@ use native.Mathlib.Omega.{arith}
 use lib.Dec.{leb}
 use lib.ListN.{length, getD, drop}
 use borrow.Author.Tests.{leb-true, le-leb, lt-leb, lt-ltb}
-use Rattle.formula.specs.declared.readers.Found.{Found}
-use Rattle.formula.specs.declared.numbers.Numeral.{Numeral}
+use Rattle.formula.specs.declared.Found.{Found}
+use Rattle.formula.specs.declared.Numeral.{Numeral}
 use Rattle.formula.specs.Bytes.{Digit}
 use Rattle.formula.specs.Tree.{Tree, number, variable, literalPower, nodes}
 use Rattle.formula.specs.Scan.{Byte, plusByte, minusByte, starByte, caretByte, openByte, closeByte, xByte, zeroByte, digitByte, otherByte, byteOf, PendingSum, PendingProduct, Level, level, Outer, State, operand, inNumber, atomed, afterCaret, inLiteral, powered, afterPower, afterAtom, afterDigit, afterLiteralDigit, beforeOperand, beforeExponent, step, ending, run}

@@ -8,8 +8,8 @@ use native.Mathlib.Omega.{arith}
 use lib.Dec.{eqb, leb, ltb}
 use lib.ListN.{length, getD, drop}
 use borrow.Author.Tests.{le-leb, lt-leb, ltb-true, ltb-false, ne-eqb, eq-eqb, eqb-true, eqb-false}
-use Rattle.formula.specs.declared.readers.Found.{Found}
-use Rattle.formula.specs.declared.numbers.Numeral.{Numeral}
+use Rattle.formula.specs.declared.Found.{Found}
+use Rattle.formula.specs.declared.Numeral.{Numeral}
 use Rattle.formula.specs.Bytes.{Digit}
 use Rattle.formula.specs.Tree.{Tree, number, variable, sum, difference, product, minus, literalPower, raise, nodes, holdsX}
 use Rattle.formula.specs.Scan.{Byte, plusByte, minusByte, starByte, caretByte, openByte, closeByte, xByte, zeroByte, digitByte, otherByte, byteOf, PendingSum, noSum, adding, subtracting, PendingProduct, noProduct, multiplying, Level, level, Outer, bottom, inBrackets, inExponent, fresh, State, operand, atomed, afterCaret, powered, stopped, negatives, productWith, sumWith, closed, afterPower, afterAtom, beforeOperand, beforeExponent, step, stops, ended, ending, run}

@@ -6,8 +6,8 @@ use mathlib.Core.List.{List}
 use Prim.Native.Nat.{ℕ, zero, suc, _+_, _-_, _*_, _/_, _%_, _^_, _≤_, _<_, min}
 use lib.Dec.{eqb, leb, ltb}
 use lib.ListN.{length, getD, drop, set}
-use Rattle.formula.specs.declared.readers.Found.{Found}
-use Rattle.formula.specs.declared.numbers.Numeral.{Numeral}
+use Rattle.formula.specs.declared.Found.{Found}
+use Rattle.formula.specs.declared.Numeral.{Numeral}
 use Rattle.formula.specs.declared.ReadAnswer.{ReadAnswer}
 use Rattle.formula.specs.Refusals.{TooDeep, Refused, Accepted}
 use Rattle.formula.specs.Tree.{Tree, number, variable, sum, difference, product, minus, literalPower, raise, nodes, holdsX}

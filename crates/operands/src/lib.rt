@@ -68,7 +68,7 @@ pub fn append(plan: &mut [u64], end: usize, kind: u64, a: u64, b: u64)
     requires { ⌜ end < 128 ⌝ }
     ensures { λ _. ⌜ now (plan .exit) ≡ withRow (now (plan .entry)) end (rowWords kind a b []) ⌝ }
 {
-    rows::write(plan, end, kind, a, b, chain::zeros());
+    rows::write(plan, end, kind, a, b, arrays::zeros());
 }
 
 // The row of a trimmed sum chain.
@@ -87,7 +87,7 @@ pub fn put_constant(plan: &mut [u64], r: usize, c: u64)
     requires { ⌜ r < 128 ⌝ }
     ensures { λ _. ⌜ now (plan .exit) ≡ placed (now (plan .entry)) r (constant c) ⌝ }
 {
-    let mut e = chain::zeros();
+    let mut e = arrays::zeros();
     e[0] = c;
     rows::write(plan, r, 0, 0, 0, e);
 }

@@ -17,7 +17,7 @@ fn put(r: ChainAnswer, answer: &mut [u64; 20])
 pub extern "C" fn otterchime_trim(f: &[u64; 17], k: u64, answer: &mut [u64; 20])
     ensures { λ _. ⌜ now (answer .exit) ≡ chainWords (answered (trimOutcome (now (f .entry)) k)) ⌝ }
 {
-    let r = chain::trim(*f, k as usize);
+    let r = arithmetic::trim(*f, k as usize);
     put(r, answer);
 }
 
@@ -26,7 +26,7 @@ pub extern "C" fn otterchime_trim(f: &[u64; 17], k: u64, answer: &mut [u64; 20])
 pub extern "C" fn otterchime_shift(f: &[u64; 17], k: u64, answer: &mut [u64; 20])
     ensures { λ _. ⌜ now (answer .exit) ≡ chainWords (answered (shiftOutcome 64 (now (f .entry)) k)) ⌝ }
 {
-    let r = chain::shift(*f, k as usize);
+    let r = arithmetic::shift(*f, k as usize);
     put(r, answer);
 }
 
@@ -35,7 +35,7 @@ pub extern "C" fn otterchime_shift(f: &[u64; 17], k: u64, answer: &mut [u64; 20]
 pub extern "C" fn otterchime_value(f: &[u64; 17], k: u64, answer: &mut [u64; 3])
     ensures { λ _. ⌜ now (answer .exit) ≡ valueWords (valueAnswer (now (f .entry)) k) ⌝ }
 {
-    let r = chain::value(*f, k as usize);
+    let r = arithmetic::value(*f, k as usize);
     *answer = [r.number, r.place, r.word];
 }
 
@@ -50,7 +50,7 @@ pub extern "C" fn otterchime_sum(
 )
     ensures { λ _. ⌜ now (answer .exit) ≡ chainWords (answered (sumOutcome 64 (now (f .entry)) k (now (g .entry)) l)) ⌝ }
 {
-    let r = chain::sum(*f, k as usize, *g, l as usize);
+    let r = arithmetic::sum(*f, k as usize, *g, l as usize);
     put(r, answer);
 }
 
@@ -65,7 +65,7 @@ pub extern "C" fn otterchime_difference(
 )
     ensures { λ _. ⌜ now (answer .exit) ≡ chainWords (answered (differenceOutcome 64 (now (f .entry)) k (now (g .entry)) l)) ⌝ }
 {
-    let r = chain::difference(*f, k as usize, *g, l as usize);
+    let r = arithmetic::difference(*f, k as usize, *g, l as usize);
     put(r, answer);
 }
 
@@ -80,7 +80,7 @@ pub extern "C" fn otterchime_product(
 )
     ensures { λ _. ⌜ now (answer .exit) ≡ chainWords (answered (productOutcome 64 (now (f .entry)) k (now (g .entry)) l)) ⌝ }
 {
-    let r = chain::product(*f, k as usize, *g, l as usize);
+    let r = arithmetic::product(*f, k as usize, *g, l as usize);
     put(r, answer);
 }
 
@@ -89,6 +89,6 @@ pub extern "C" fn otterchime_product(
 pub extern "C" fn otterchime_from_coefficients(coefficients: &[u64], answer: &mut [u64; 20])
     ensures { λ _. ⌜ now (answer .exit) ≡ chainWords (answered (coefficientsOutcome 64 (now (coefficients .entry)))) ⌝ }
 {
-    let r = chain::from_coefficients(coefficients);
+    let r = coefficients::from_coefficients(coefficients);
     put(r, answer);
 }

@@ -9,7 +9,7 @@ use lib.Dec.{leb, ltb, eqb}
 use lib.ListN.{length, getD, drop}
 use lib.Seq.{drop-drop, getD-at}
 use borrow.Author.Tests.{ltb-true, leb-true, eqb-true, eqb-false, eq-eqb, ne-eqb}
-use Rattle.plan.specs.declared.kinds.Kind.{Kind}
+use Rattle.plan.specs.declared.Kind.{Kind}
 use Rattle.plan.specs.Row.{Row, kind, wordA, wordB, costing, kindTable, kindFacts, fixedCost, operandCount, isChain, rowCost, between, soundA, soundB, elementsUsed, allZero, keepsTable, oddConstant, soundBase, soundRow}
 use Rattle.plan.specs.Plan.{rowCount, row, rowsFrom, firstRows, rows, soundFrom, sound}
 use Rattle.plan.proofs.RowLaws.{rowPart, row-part, row-at, length-row, word-at, rows-add, rows-next, length-rows, sound-append}

@@ -5,7 +5,7 @@ use mathlib.Core.List.{List, [], _∷_}
 use Prim.Native.Nat.{ℕ, _+_, _-_, _%_}
 use lib.Dec.{leb, ltb, eqb}
 use lib.ListN.{length, getD, drop}
-use Rattle.plan.specs.declared.kinds.Kind.{Kind}
+use Rattle.plan.specs.declared.Kind.{Kind}
 
 -- "Row r has the 20 words from 1 + 20r: kind, a, b, then 17 element words."
 abbrev pub Row : Type 0

@@ -21,9 +21,9 @@ fn print_plan(n: u64, plan: &mut [u64], table: &mut [u64], out: &mut [u8]) -> us
     ensures { λ _. ⌜ now (plan .exit) ≡ planAfter 64 (length (now (table .entry))) (now (plan .entry)) ⌝ }
     ensures { λ _. ⌜ now (table .exit) ≡ pointValues 64 (length (now (table .entry))) (now (plan .entry)) ⌝ }
 {
-    let cost = plan::cost(plan);
+    let cost = filling::cost(plan);
     let at = writing::write_job_line(out, n, plan[0], cost.cost);
-    plan::fill(plan, table, u64::MAX);
+    filling::fill(plan, table, u64::MAX);
     writing::write_points(out, at, table)
 }
 

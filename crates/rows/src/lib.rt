@@ -23,7 +23,7 @@ pub fn elements(plan: &[u64], r: usize) -> [u64; 17]
     ensures { λ e. ⌜ e ≡ elements (row (now (plan .entry)) r) ⌝ }
 {
     let first = 4 + 20 * r;
-    let mut e = chain::zeros();
+    let mut e = arrays::zeros();
     let mut j = 0;
     while j < 17 {
         e[j] = plan[first + j];

@@ -55,7 +55,7 @@ pub fn put_product(plan: &mut [u64], r: usize, elements: [u64; 17])
     ensures { λ _. ⌜ now (plan .exit) ≡ placed (now (plan .entry)) r (trimmedProduct elements) ⌝ }
 {
     if elements[0] == 0 {
-        put_chain(plan, r, 2, 0, chain::zeros());
+        put_chain(plan, r, 2, 0, arrays::zeros());
         return;
     }
     let t = trim_ones(elements);

@@ -1,0 +1,99 @@
+// Sum chains for callers: trim, sum, difference, product, shift and value, each with its refusals.
+// A chain is an array of 17 words by value with its length. The work on arrays is in `arrays` and `products`; formulas and plans live above.
+use arrays::accepted;
+use arrays::refusal;
+use chain::ChainAnswer;
+use chain::ValueAnswer;
+ghost use mathlib.Core.Path.{_≡_};
+ghost use Rattle.chain.specs.Answer.{answered, trimOutcome, sumOutcome, differenceOutcome, productOutcome, shiftOutcome, valueAnswer};
+
+// The longest chain, and the longest product.
+const LONGEST: usize = 16;
+
+const LONGEST_PRODUCT: usize = 16;
+
+// The chain f of length k without its trailing zeros.
+pub fn trim(f: [u64; 17], k: usize) -> ChainAnswer
+    ensures { λ r. ⌜ r ≡ answered (trimOutcome f k) ⌝ }
+{
+    if LONGEST < k {
+        return refusal(14);
+    }
+    let kept = arrays::kept(f, k);
+    accepted(kept)
+}
+
+pub fn sum(f: [u64; 17], k: usize, g: [u64; 17], l: usize) -> ChainAnswer
+    ensures { λ r. ⌜ r ≡ answered (sumOutcome 64 f k g l) ⌝ }
+{
+    if LONGEST < k {
+        return refusal(14);
+    }
+    if LONGEST < l {
+        return refusal(14);
+    }
+    let sum = arrays::sum_words(arrays::kept(f, k), arrays::kept(g, l));
+    accepted(sum)
+}
+
+pub fn difference(f: [u64; 17], k: usize, g: [u64; 17], l: usize) -> ChainAnswer
+    ensures { λ r. ⌜ r ≡ answered (differenceOutcome 64 f k g l) ⌝ }
+{
+    if LONGEST < k {
+        return refusal(14);
+    }
+    if LONGEST < l {
+        return refusal(14);
+    }
+    let difference = arrays::difference_words(arrays::kept(f, k), arrays::kept(g, l));
+    accepted(difference)
+}
+
+// Refused 15 where the trimmed lengths add over 16.
+pub fn product(f: [u64; 17], k: usize, g: [u64; 17], l: usize) -> ChainAnswer
+    ensures { λ r. ⌜ r ≡ answered (productOutcome 64 f k g l) ⌝ }
+{
+    if LONGEST < k {
+        return refusal(14);
+    }
+    if LONGEST < l {
+        return refusal(14);
+    }
+    let f_kept = arrays::kept(f, k);
+    let g_kept = arrays::kept(g, l);
+    let f_trimmed = arrays::trimmed_length(f_kept);
+    let g_trimmed = arrays::trimmed_length(g_kept);
+    if LONGEST_PRODUCT < f_trimmed + g_trimmed {
+        return refusal(15);
+    }
+    accepted(products::product_words(f_kept, f_trimmed, g_kept, g_trimmed))
+}
+
+pub fn shift(f: [u64; 17], k: usize) -> ChainAnswer
+    ensures { λ r. ⌜ r ≡ answered (shiftOutcome 64 f k) ⌝ }
+{
+    if LONGEST < k {
+        return refusal(14);
+    }
+    let mut shifted = arrays::kept(f, k);
+    arrays::shift_part(&mut shifted);
+    accepted(shifted)
+}
+
+// The word at the present point.
+pub fn value(f: [u64; 17], k: usize) -> ValueAnswer
+    ensures { λ r. ⌜ r ≡ valueAnswer f k ⌝ }
+{
+    if LONGEST < k {
+        return ValueAnswer {
+            number: 14,
+            place: 0,
+            word: 0,
+        };
+    }
+    ValueAnswer {
+        number: 0,
+        place: 0,
+        word: f[0],
+    }
+}

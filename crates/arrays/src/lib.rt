@@ -1,0 +1,106 @@
+// Sum chains as arrays of 17 words, 0 past their elements, and as lent slices that change in place, with the supplied wrapping sums.
+// Lengths are checked by the callers in `arithmetic` and `coefficients`; the product is in `products`.
+use chain::ChainAnswer;
+ghost use mathlib.Core.Path.{_≡_};
+ghost use mathlib.Core.List.{[]};
+ghost use Prim.Native.Nat.{_+_, _-_, _≤_};
+ghost use lib.ListN.{length, take};
+ghost use Rattle.chain.specs.Chain.{trimmed, row, words};
+ghost use Rattle.chain.specs.SumChain.{sum, difference, sumShift};
+ghost use Rattle.chain.specs.Answer.{answered, refused, chain};
+
+// The constant 0.
+pub fn zeros() -> [u64; 17]
+    ensures { λ r. ⌜ r ≡ row 17 [] ⌝ }
+{
+    [0; 17]
+}
+
+// The words up to the given length, 0 past it.
+pub fn kept(f: [u64; 17], last: usize) -> [u64; 17]
+    requires { ⌜ last ≤ 16 ⌝ }
+    ensures { λ r. ⌜ r ≡ row 17 (take (last + 1) f) ⌝ }
+{
+    let mut r = zeros();
+    let mut i = 0;
+    while i <= last {
+        r[i] = f[i];
+        i += 1;
+    }
+    r
+}
+
+// The index of the last word that is not 0, or 0.
+pub fn trimmed_length(f: [u64; 17]) -> usize
+    ensures { λ r. ⌜ r ≡ length (trimmed 0 f) - 1 ⌝ }
+{
+    let mut last = 16;
+    while 0 < last {
+        if f[last] != 0 {
+            return last;
+        }
+        last -= 1;
+    }
+    0
+}
+
+pub fn sum_words(f: [u64; 17], g: [u64; 17]) -> [u64; 17]
+    ensures { λ r. ⌜ r ≡ row 17 (words 64 (sum f g)) ⌝ }
+{
+    let mut r = zeros();
+    let mut i = 0;
+    while i < 17 {
+        r[i] = std::num::wrapping_add_u64(f[i], g[i]);
+        i += 1;
+    }
+    r
+}
+
+pub fn difference_words(f: [u64; 17], g: [u64; 17]) -> [u64; 17]
+    ensures { λ r. ⌜ r ≡ row 17 (difference 64 f g) ⌝ }
+{
+    let mut r = zeros();
+    let mut i = 0;
+    while i < 17 {
+        r[i] = std::num::wrapping_sub_u64(f[i], g[i]);
+        i += 1;
+    }
+    r
+}
+
+// One shift in place, from the bottom up: each word meets its neighbour's old value.
+pub fn shift_part(f: &mut [u64])
+    ensures { λ _. ⌜ now (f .exit) ≡ words 64 (sumShift (now (f .entry))) ⌝ }
+{
+    let len = f.len();
+    let mut left = len;
+    while 1 < left {
+        let at = len - left;
+        f[at] = std::num::wrapping_add_u64(f[at], f[at + 1]);
+        left -= 1;
+    }
+}
+
+// A refusal with the constant 0.
+pub fn refusal(number: u64) -> ChainAnswer
+    ensures { λ r. ⌜ r ≡ answered (refused number) ⌝ }
+{
+    ChainAnswer {
+        number,
+        place: 0,
+        length: 0,
+        elements: zeros(),
+    }
+}
+
+// The chain of all 17 words, trimmed.
+pub fn accepted(elements: [u64; 17]) -> ChainAnswer
+    ensures { λ r. ⌜ r ≡ answered (chain (trimmed 0 elements)) ⌝ }
+{
+    ChainAnswer {
+        number: 0,
+        place: 0,
+        length: trimmed_length(elements),
+        elements,
+    }
+}
