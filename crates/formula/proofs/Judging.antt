@@ -2,7 +2,7 @@
 use mathlib.Core.Path.{_≡_, refl, ap, _∙_}
 use mathlib.Core.Bool.{Bool, true, false}
 use mathlib.Core.Logic.{_⊎_, inl, inr}
-use mathlib.Core.List.{List, [], _∷_, _++_}
+use mathlib.Core.List.{List, _∷_, _++_}
 use Prim.Native.Nat.{ℕ, _≤_, _<_}
 use native.Mathlib.Omega.{arith}
 use lib.Dec.{ltb}
@@ -143,18 +143,7 @@ module _ (l : List ℕ) (short : length l ≤ 1024) (flat : (q : ℕ) → TooDee
       first _ _ (x-in-base a b c) = inl (omega arith)
       first _ _ (even-base a b c) = inl (omega arith)
 
-  module _ (f : ℕ) (out : List ℕ) (r : Found) (now : List ℕ) (read : SumRead l 0 0 f out r now) where
-    pub judged-lost : r .ok ≡ false → Judged 64 l (record { number = 4; place = r .at })
-    judged-lost no-tree = judged-stop (r .at) (lost read no-tree bottom)
-
-    pub judged-short : r .ok ≡ true → r .at < length l → Judged 64 l (record { number = 4; place = r .at })
-    judged-short some h = judged-stop (r .at) (scanned-short l f out r now (got read some) h)
-
 -- ---- the answer
-no-words : (s : List ℕ) → length s ≡ 0 → s ≡ []
-no-words [] e = refl
-no-words (a ∷ s) e = absurd (omega arith)
-
 pub fault-number : {w : ℕ} {s : List ℕ} {n p : ℕ} → Fault w s n p → 2 ≤ n
 fault-number (too-long h) = omega arith
 fault-number (too-deep d) = omega arith
@@ -166,15 +155,13 @@ fault-number (too-many a b) = omega arith
 fault-number (x-in-base a b c) = omega arith
 fault-number (even-base a b c) = omega arith
 
--- A refused text alters nothing: the judge was lent a part with no word.
-pub reading-refused : (l lent : List ℕ) (answer : ReadAnswer) (none : List ℕ) → 257 ≤ length lent → Judged 64 l answer
-    → (answer .number ≡ 0 → ⊥) → length none ≡ 0 → Reading 64 l lent answer (none ++ lent)
-reading-refused l lent _ none h (refuses r) some e = rw (no-words none e) (refused h r)
-reading-refused l lent _ none h (accepts a) some e = absurd (some refl)
+-- A refused text alters nothing.
+pub reading-refused : (l lent : List ℕ) (answer : ReadAnswer) → 257 ≤ length lent → Judged 64 l answer → (answer .number ≡ 0 → ⊥)
+    → Reading 64 l lent answer lent
+reading-refused l lent _ h (refuses r) some = refused h r
+reading-refused l lent _ h (accepts a) some = absurd (some refl)
 
-pub reading-accepted : (l lent : List ℕ) (answer : ReadAnswer) (none now : List ℕ) → 257 ≤ length lent → Judged 64 l answer
-    → answer .number ≡ 0 → length none ≡ 0 → ((t : Tree) → Accepted 64 l t → now ≡ treeWords t ++ drop 257 (none ++ lent))
-    → Reading 64 l lent answer now
-reading-accepted l lent _ none now h (refuses r) nought e writes = absurd (omega (arith, fault-number (r .applies)))
-reading-accepted l lent _ none now h (accepts {t = t} a) nought e writes =
-    rw (writes t a, no-words none e) (accepted h a)
+pub reading-accepted : (l lent : List ℕ) (answer : ReadAnswer) (now : List ℕ) → 257 ≤ length lent → Judged 64 l answer → answer .number ≡ 0
+    → ((t : Tree) → Accepted 64 l t → now ≡ treeWords t ++ drop 257 lent) → Reading 64 l lent answer now
+reading-accepted l lent _ now h (refuses r) nought writes = absurd (omega (arith, fault-number (r .applies)))
+reading-accepted l lent _ now h (accepts {t = t} a) nought writes = rw (writes t a) (accepted h a)

@@ -1,5 +1,5 @@
 // The formula reader: a text to its tree in postfix order, by document 01's grammar and limits, or the refusal's number and place.
-// The bracket count is in `depth`, the readers of the grammar in `readers`; what a formula folds to lives above.
+// The bracket count is in `depth`, the readers of the grammar in `readers`, a whole text in `cursor`; what a formula folds to lives above.
 mod depth;
 
 use formula::ReadAnswer;
@@ -36,8 +36,8 @@ fn nodes_fault(nodes: usize) -> u64
     NO_FAULT
 }
 
-// Refusals 2 to 8 of a text, or none. The lent part has no word.
-fn judged(text: &[u8], none: &mut [u64]) -> ReadAnswer
+// Refusals 2 to 8 of a text, or none. No tree is written.
+fn judged(text: &[u8]) -> ReadAnswer
     ensures { λ r. ⌜ Judged 64 (now (text .entry)) r ⌝ }
 {
     if LONGEST_TEXT < text.len() {
@@ -53,21 +53,14 @@ fn judged(text: &[u8], none: &mut [u64]) -> ReadAnswer
             place: deep as u64,
         };
     }
-    let sum = readers::read_sum(text, none, 0, 0, NO_FAULT);
-    let end = sum.at;
-    if !sum.ok {
+    let whole = cursor::read_whole(text);
+    if !whole.ok {
         return ReadAnswer {
             number: 4,
-            place: end as u64,
+            place: whole.at as u64,
         };
     }
-    if end < text.len() {
-        return ReadAnswer {
-            number: 4,
-            place: end as u64,
-        };
-    }
-    let code = faults::lesser(sum.fault, nodes_fault(sum.nodes));
+    let code = faults::lesser(whole.fault, nodes_fault(whole.nodes));
     if code < NO_FAULT {
         return ReadAnswer {
             number: code / 2048,
@@ -100,7 +93,7 @@ pub fn read(text: &[u8], tree: &mut [u64]) -> ReadAnswer
             place: 0,
         };
     }
-    let answer = judged(text, &mut tree[..0]);
+    let answer = judged(text);
     if answer.number != 0 {
         return answer;
     }

@@ -1,5 +1,5 @@
 // The table printer: reads a job file from standard input and writes what it prints to standard output.
-// What a run prints is decided in `job`, step by step; here bytes are read and written, and buffers are lent.
+// What a run prints is decided in `steps`; here bytes are read and written, and buffers are lent.
 use job::Progress;
 use job::Stepped;
 use libc::STDIN_FILENO;
@@ -74,7 +74,7 @@ fn step(
     ensures { λ r. ⌜ r .used ≤ length (now (input .entry)) ⌝ }
     ensures { λ r. ⌜ (r .ok ≡ true → 1 ≤ length (now (input .entry)) → 1 ≤ r .used) ⌝ }
 {
-    job::step(
+    steps::step(
         progress,
         input,
         line,
@@ -98,7 +98,7 @@ fn finish(
     requires { ⌜ filled ≤ length (now out) ⌝ }
     ensures { λ r. ⌜ filled + r .wrote ≤ length (now (out .exit)) ⌝ }
 {
-    job::finish(progress, line, defaults, plan, table, &mut out[filled..])
+    steps::finish(progress, line, defaults, plan, table, &mut out[filled..])
 }
 
 // A step with room made for it.
@@ -197,7 +197,7 @@ fn run(
 ) {
     let mut going = Going {
         ok: true,
-        progress: job::start(),
+        progress: steps::start(),
         used: 0,
         filled: 0,
     };
