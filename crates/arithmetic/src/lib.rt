@@ -1,11 +1,16 @@
 // Sum chains for callers: trim, sum, difference, product, shift and value, each with its refusals.
 // A chain is an array of 17 words by value with its length. The work on arrays is in `arrays` and `products`; formulas and plans live above.
+use arrays::Operation;
 use arrays::accepted;
 use arrays::refusal;
 use chain::ChainAnswer;
 use chain::ValueAnswer;
 ghost use mathlib.Core.Path.{_≡_};
-ghost use Rattle.chain.specs.Answer.{answered, trimOutcome, sumOutcome, differenceOutcome, productOutcome, shiftOutcome, valueAnswer};
+ghost use Prim.Native.Nat.{_+_};
+ghost use lib.ListN.{take};
+ghost use Rattle.chain.specs.Chain.{trimmed, row};
+ghost use Rattle.arrays.specs.Operations.{wordByWord};
+ghost use Rattle.chain.specs.Answer.{answered, chain, unlessLong, trimOutcome, sumOutcome, differenceOutcome, productOutcome, shiftOutcome, valueAnswer};
 
 // The longest chain, and the longest product.
 const LONGEST: usize = 16;
@@ -23,8 +28,11 @@ pub fn trim(f: [u64; 17], k: usize) -> ChainAnswer
     accepted(kept)
 }
 
-pub fn sum(f: [u64; 17], k: usize, g: [u64; 17], l: usize) -> ChainAnswer
-    ensures { λ r. ⌜ r ≡ answered (sumOutcome 64 f k g l) ⌝ }
+// The sum or the difference of the chains f of length k and g of length l.
+fn combined(operation: Operation, f: [u64; 17], k: usize, g: [u64; 17], l: usize) -> ChainAnswer
+    ensures { λ r. ⌜
+        r ≡ answered (unlessLong k (unlessLong l (chain (trimmed 0 (wordByWord operation (row 17 (take (k + 1) f)) (row 17 (take (l + 1) g)))))))
+        ⌝ }
 {
     if LONGEST < k {
         return refusal(14);
@@ -32,21 +40,20 @@ pub fn sum(f: [u64; 17], k: usize, g: [u64; 17], l: usize) -> ChainAnswer
     if LONGEST < l {
         return refusal(14);
     }
-    let sum = arrays::sum_words(arrays::kept(f, k), arrays::kept(g, l));
-    accepted(sum)
+    let combined = arrays::word_by_word(operation, arrays::kept(f, k), arrays::kept(g, l));
+    accepted(combined)
+}
+
+pub fn sum(f: [u64; 17], k: usize, g: [u64; 17], l: usize) -> ChainAnswer
+    ensures { λ r. ⌜ r ≡ answered (sumOutcome 64 f k g l) ⌝ }
+{
+    combined(Operation::Sum, f, k, g, l)
 }
 
 pub fn difference(f: [u64; 17], k: usize, g: [u64; 17], l: usize) -> ChainAnswer
     ensures { λ r. ⌜ r ≡ answered (differenceOutcome 64 f k g l) ⌝ }
 {
-    if LONGEST < k {
-        return refusal(14);
-    }
-    if LONGEST < l {
-        return refusal(14);
-    }
-    let difference = arrays::difference_words(arrays::kept(f, k), arrays::kept(g, l));
-    accepted(difference)
+    combined(Operation::Difference, f, k, g, l)
 }
 
 // Refused 15 where the trimmed lengths add over 16.

@@ -1,4 +1,4 @@
-// Sum chains as arrays of 17 words, 0 past their elements, and as lent slices that change in place, with the supplied wrapping sums.
+// Chains as arrays of 17 words, and as lent slices that change in place: 0 past the elements, trimmed, and two of them word by word.
 // Lengths are checked by the callers in `arithmetic` and `coefficients`; the product is in `products`.
 use chain::ChainAnswer;
 ghost use mathlib.Core.Path.{_≡_};
@@ -6,8 +6,17 @@ ghost use mathlib.Core.List.{[]};
 ghost use Prim.Native.Nat.{_+_, _-_, _≤_};
 ghost use lib.ListN.{length, take};
 ghost use Rattle.chain.specs.Chain.{trimmed, row, words};
-ghost use Rattle.chain.specs.SumChain.{sum, difference, sumShift};
+ghost use Rattle.chain.specs.SumChain.{sumShift};
 ghost use Rattle.chain.specs.Answer.{answered, refused, chain};
+ghost use Rattle.arrays.specs.Operations.{worked, wordByWord};
+
+// What is worked out of two words.
+pub enum Operation {
+    Sum,
+    Difference,
+    Product,
+    Power,
+}
 
 // The constant 0.
 pub fn zeros() -> [u64; 17]
@@ -44,25 +53,26 @@ pub fn trimmed_length(f: [u64; 17]) -> usize
     0
 }
 
-pub fn sum_words(f: [u64; 17], g: [u64; 17]) -> [u64; 17]
-    ensures { λ r. ⌜ r ≡ row 17 (words 64 (sum f g)) ⌝ }
+// By the supplied wrapping sum and difference, and `word`'s product and power.
+fn worked(operation: Operation, a: u64, b: u64) -> u64
+    ensures { λ r. ⌜ r ≡ worked operation a b ⌝ }
 {
-    let mut r = zeros();
-    let mut i = 0;
-    while i < 17 {
-        r[i] = std::num::wrapping_add_u64(f[i], g[i]);
-        i += 1;
+    match operation {
+        Operation::Sum => std::num::wrapping_add_u64(a, b),
+        Operation::Difference => std::num::wrapping_sub_u64(a, b),
+        Operation::Product => word::times(a, b),
+        Operation::Power => word::power(a, b),
     }
-    r
 }
 
-pub fn difference_words(f: [u64; 17], g: [u64; 17]) -> [u64; 17]
-    ensures { λ r. ⌜ r ≡ row 17 (difference 64 f g) ⌝ }
+// Two arrays, word by word.
+pub fn word_by_word(operation: Operation, f: [u64; 17], g: [u64; 17]) -> [u64; 17]
+    ensures { λ r. ⌜ r ≡ wordByWord operation f g ⌝ }
 {
     let mut r = zeros();
     let mut i = 0;
     while i < 17 {
-        r[i] = std::num::wrapping_sub_u64(f[i], g[i]);
+        r[i] = worked(operation, f[i], g[i]);
         i += 1;
     }
     r

@@ -6,10 +6,7 @@ use native.Mathlib.Nat.{zero-mod, mod-eq-of-lt, le-of-suc-le-suc, not-suc-le-zer
 use native.Mathlib.Numerals.{add-one}
 use lib.ListN.{length, getD, take, set}
 use lib.Seq.{take-nil}
-use Rattle.chain.specs.Chain.{value, rest, joined, words, row}
-use Rattle.chain.specs.SumChain.{sum, difference}
-use Rattle.word.specs.Word as Word
-use Rattle.word.proofs.Ring as Ring
+use Rattle.chain.specs.Chain.{value, rest, words, row}
 
 -- ---- entries
 pub entry-rest : (f : List ℕ) (i : ℕ) → getD (rest f) i 0 ≡ getD f (suc i) 0
@@ -33,13 +30,6 @@ entry-map h e (a ∷ f) (suc i) = entry-map h e f i
 
 pub entry-words : (w : ℕ) (f : List ℕ) (i : ℕ) → getD (words w f) i 0 ≡ getD f i 0 % 2 ^ w
 entry-words w f i = entry-map (λ a. a % 2 ^ w) (zero-mod (2 ^ w)) f i
-
-pub entry-joined : (_⊙_ : ℕ → ℕ → ℕ) → _⊙_ 0 0 ≡ 0 → (f g : List ℕ) (i : ℕ)
-    → getD (joined _⊙_ 0 f g) i 0 ≡ _⊙_ (getD f i 0) (getD g i 0)
-unfolding joined
-entry-joined _⊙_ e [] g i = entry-map (λ b. _⊙_ 0 b) e g i
-entry-joined _⊙_ e (a ∷ f) g zero = ap (λ z. _⊙_ a z) (sym (entry-value g))
-entry-joined _⊙_ e (a ∷ f) g (suc i) = entry-joined _⊙_ e f (rest g) i ∙ ap (λ z. _⊙_ (getD f i 0) z) (entry-rest g i)
 
 -- ---- a whole array is its own row
 row-of-length : (f : List ℕ) → row (length f) f ≡ f
@@ -81,13 +71,3 @@ row-filled n h i e q = e ∙ ap (λ k. row n (take k h)) q ∙ row-take n h
 -- Where h has n elements, they are all there are.
 pub array-filled : (n : ℕ) (h : List ℕ) {r : List ℕ} (i : ℕ) → length h ≡ n → r ≡ row n (take i h) → i ≡ n → r ≡ h
 array-filled n h i long e q = row-filled n h i e q ∙ row-whole n h long
-
--- ---- the entries of what the array functions make
-pub entry-sum : (w : ℕ) (f g : List ℕ) (i : ℕ) → getD (words w (sum f g)) i 0 ≡ (getD f i 0 + getD g i 0) % 2 ^ w
-entry-sum w f g i = entry-words w (sum f g) i ∙ ap (λ z. z % 2 ^ w) (entry-joined _+_ refl f g i)
-
-pub entry-difference : (w : ℕ) (f g : List ℕ) (i : ℕ) → getD (difference w f g) i 0 ≡ Word.difference w (getD f i 0) (getD g i 0)
-entry-difference w f g i = entry-joined (Word.difference w) (nothing w) f g i
-  where
-    nothing : (w : ℕ) → Word.difference w 0 0 ≡ 0
-    nothing w = Ring.difference-negation w 0 0 ∙ Ring.sum-comm w 0 (Word.negation w 0) ∙ Ring.negation-sum w 0

@@ -1,5 +1,5 @@
 -- One node folded: the finished operands that it takes, and that the machine is then at the next node.
-use mathlib.Core.Path.{_≡_, refl, sym, ap, ap₂, subst}
+use mathlib.Core.Path.{_≡_, refl, sym, ap, ap₂, subst, _∙_}
 use mathlib.Core.Bool.{Bool, true, false}
 use mathlib.Core.List.{List, [], _∷_}
 use Prim.Native.Nat.{ℕ, _+_, _%_, _^_, _≤_, _<_}
@@ -136,69 +136,48 @@ module _ (start step : ℕ) (p : List ℕ) (end : ℕ) (long : 2561 ≤ length p
         × (rowCount (foldBoth k (fold 64 start step a) (fold 64 start step b)) ≤ rowCount (fold 64 start step a) + rowCount (fold 64 start step b) + 1)
         × Finishes t (u ∷ rest) more
 
-    as-sum : k ≡ 3 → Both
-    unfolding Both fold
-    as-sum e =
-        let seen = view-sum (work .finishes) e in
-        let f = fold 64 start step (seen .0) in
-        let g = fold 64 start step (seen .1) in (
-          seen .0,
-          seen .1,
-          Tree.sum (seen .0) (seen .1),
-          seen .2,
-          seen .3,
-          ap (λ k. foldBoth k f g) (sym e),
-          subst (λ k. rowCount (foldBoth k f g) ≤ rowCount f + rowCount g + 1) (sym e) (sum-rows 64 f g),
-          seen .4,
+    -- The node of kind j makes the tree u of its two operands.
+    as-both : {j : ℕ} → k ≡ j → (a b u : Tree) (rest : List Tree) → work .done ≡ b ∷ a ∷ rest
+        → fold 64 start step u ≡ foldBoth j (fold 64 start step a) (fold 64 start step b)
+        → rowCount (foldBoth j (fold 64 start step a) (fold 64 start step b)) ≤ rowCount (fold 64 start step a) + rowCount (fold 64 start step b) + 1
+        → Finishes t (u ∷ rest) more → Both
+    unfolding Both
+    as-both e a b u rest is same rows fin =
+        let f = fold 64 start step a in
+        let g = fold 64 start step b in (
+          a,
+          b,
+          u,
+          rest,
+          is,
+          same ∙ ap (λ k. foldBoth k f g) (sym e),
+          subst (λ k. rowCount (foldBoth k f g) ≤ rowCount f + rowCount g + 1) (sym e) rows,
+          fin,
         )
+
+    as-sum : k ≡ 3 → Both
+    unfolding fold
+    as-sum e =
+        let (a, b, rest, is, fin) = view-sum (work .finishes) e in
+        as-both e a b (Tree.sum a b) rest is refl (sum-rows 64 (fold 64 start step a) (fold 64 start step b)) fin
 
     as-difference : k ≡ 4 → Both
-    unfolding Both fold
+    unfolding fold
     as-difference e =
-        let seen = view-difference (work .finishes) e in
-        let f = fold 64 start step (seen .0) in
-        let g = fold 64 start step (seen .1) in (
-          seen .0,
-          seen .1,
-          Tree.difference (seen .0) (seen .1),
-          seen .2,
-          seen .3,
-          ap (λ k. foldBoth k f g) (sym e),
-          subst (λ k. rowCount (foldBoth k f g) ≤ rowCount f + rowCount g + 1) (sym e) (difference-rows 64 f g),
-          seen .4,
-        )
+        let (a, b, rest, is, fin) = view-difference (work .finishes) e in
+        as-both e a b (Tree.difference a b) rest is refl (difference-rows 64 (fold 64 start step a) (fold 64 start step b)) fin
 
     as-product : k ≡ 5 → Both
-    unfolding Both fold
+    unfolding fold
     as-product e =
-        let seen = view-product (work .finishes) e in
-        let f = fold 64 start step (seen .0) in
-        let g = fold 64 start step (seen .1) in (
-          seen .0,
-          seen .1,
-          Tree.product (seen .0) (seen .1),
-          seen .2,
-          seen .3,
-          ap (λ k. foldBoth k f g) (sym e),
-          subst (λ k. rowCount (foldBoth k f g) ≤ rowCount f + rowCount g + 1) (sym e) (product-rows 64 f g),
-          seen .4,
-        )
+        let (a, b, rest, is, fin) = view-product (work .finishes) e in
+        as-both e a b (Tree.product a b) rest is refl (product-rows 64 (fold 64 start step a) (fold 64 start step b)) fin
 
     as-raise : k ≡ 8 → Both
-    unfolding Both fold
+    unfolding fold
     as-raise e =
-        let seen = view-raise (work .finishes) e in
-        let f = fold 64 start step (seen .1) in
-        let g = fold 64 start step (seen .2) in (
-          seen .1,
-          seen .2,
-          Tree.raise (seen .1) (seen .0) (seen .2),
-          seen .3,
-          seen .4,
-          ap (λ k. foldBoth k f g) (sym e),
-          subst (λ k. rowCount (foldBoth k f g) ≤ rowCount f + rowCount g + 1) (sym e) (raise-rows 64 f g),
-          seen .5,
-        )
+        let (place, a, b, rest, is, fin) = view-raise (work .finishes) e in
+        as-both e a b (Tree.raise a place b) rest is refl (raise-rows 64 (fold 64 start step a) (fold 64 start step b)) fin
 
     two-operands : (k ≡ 0 → ⊥) → (k ≡ 1 → ⊥) → (k ≡ 6 → ⊥) → (k ≡ 7 → ⊥) → Both
     two-operands no0 no1 no6 no7 = among (eqb k 3) (eqb k 4) (eqb k 5) refl refl refl

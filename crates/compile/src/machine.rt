@@ -34,8 +34,8 @@ fn fold_both(plan: &mut [u64], kind: u64, left: usize, middle: usize, end: usize
     ensures { λ r. ⌜ FoldsBoth (foldBoth kind) (now (plan .entry)) left middle end r (now (plan .exit)) ⌝ }
 {
     match kind {
-        3 => fold_sums::fold_sum(plan, left, middle, end),
-        4 => fold_sums::fold_difference(plan, left, middle, end),
+        3 => fold_sums::fold_sum(plan, 3, left, middle, end),
+        4 => fold_sums::fold_sum(plan, 4, left, middle, end),
         5 => fold_products::fold_product(plan, left, middle, end),
         _ => fold_powers::fold_raise(plan, left, middle, end),
     }

@@ -1,5 +1,5 @@
 // The cost of a row and of a plan that is sound.
-use soundness::kinds;
+use row_checks::kinds;
 ghost use mathlib.Core.Path.{_≡_};
 ghost use mathlib.Core.Bool.{true};
 ghost use Prim.Native.Nat.{_≤_, _<_};

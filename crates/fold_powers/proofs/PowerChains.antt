@@ -1,8 +1,8 @@
--- Chains of 17 words to a literal power, and a constant to a chain: what the loops over them make, and what it trims to.
+-- Chains of 17 words to a literal power, and a constant to a chain: what they trim to, and what the loop of products makes.
 use mathlib.Core.Path.{_≡_, refl, sym, ap, ap₂, _∙_}
 use mathlib.Core.List.{List, [], _∷_, map}
 use Prim.Native.Nat.{ℕ, zero, suc, _+_, _-_, _*_, _%_, _^_, _≤_, _<_}
-use native.Mathlib.Nat.{not-suc-le-zero, le-of-suc-le-suc, pow-zero, pow-suc, mul-le-mul, mul-le-mul-left}
+use native.Mathlib.Nat.{pow-zero, pow-suc, mul-le-mul, mul-le-mul-left}
 use native.Mathlib.Numerals.{add-one}
 use native.Mathlib.Omega.{arith}
 use lib.ListN.{length, getD, take, length-map, length-take}
@@ -17,7 +17,7 @@ use Rattle.chain.specs.SumChain.{sumAt, product, power}
 use Rattle.chain.specs.ProductChain.{trimmedProduct, powerOfEach, raised}
 use Rattle.chain.specs.Answer.{answered, chain, given, unlessLong, unlessOver, trimOutcome, productOutcome}
 use Rattle.chain.proofs.Values.{value-map, rest-map}
-use Rattle.chain.proofs.Rows.{entry-words, array-filled, words-whole}
+use Rattle.chain.proofs.Rows.{words-whole}
 use Rattle.chain.proofs.SumLaws.{value-words, value-product, value-power}
 use Rattle.chain.proofs.Trimming.{value-trimmed-sum, length-trimmed, length-trimmed-some}
 use Rattle.chain.proofs.Canonical.{same-trimmed}
@@ -25,20 +25,6 @@ use Rattle.chain.proofs.Calls.{length-product}
 use Rattle.rows.specs.Standing.{filledWithOnes}
 use Rattle.operands.proofs.OperandLaws.{Chain, row-taken}
 use Rattle.operands.proofs.OnesTrimmed.{map-filled, words-trimmed}
-
--- ---- a loop over every word
-entry-mapped : (h : ℕ → ℕ) (f : List ℕ) (i : ℕ) → i < length f → getD (map h f) i 0 ≡ h (getD f i 0)
-entry-mapped h [] i p = absurd (not-suc-le-zero p)
-entry-mapped h (a ∷ f) zero p = refl
-entry-mapped h (a ∷ f) (suc i) p = entry-mapped h f i (le-of-suc-le-suc p)
-
--- Word j of the words of h's values.
-pub word-entry : (h : ℕ → ℕ) (f : List ℕ) (j : ℕ) → j < length f → h (getD f j 0) % 2 ^ 64 ≡ getD (words 64 (map h f)) j 0
-word-entry h f j p = ap (λ a. a % 2 ^ 64) (sym (entry-mapped h f j p)) ∙ sym (entry-words 64 (map h f) j)
-
-pub every-word : (h : ℕ → ℕ) (f : List ℕ) {r : List ℕ} (j : ℕ) → length f ≡ 17 → r ≡ row 17 (take j (words 64 (map h f))) → j ≡ 17
-    → r ≡ words 64 (map h f)
-every-word h f j long = array-filled 17 (words 64 (map h f)) j (length-map (map h f) (λ a. a % 2 ^ 64) ∙ length-map f h ∙ long)
 
 -- ---- "P^n: every element to the n", on 17 words filled with ones
 short-map : (h : ℕ → ℕ) (f : List ℕ) → length f ≤ 17 → length (map h f) ≤ 17

@@ -1,4 +1,6 @@
 // Literal powers and raises of operands that stand at the top of a lent plan.
+use arrays::Operation;
+use arrays::word_by_word;
 use chain::ChainAnswer;
 use operands::append;
 use operands::first_element;
@@ -13,7 +15,6 @@ ghost use Rattle.plan.specs.Row.{kind};
 ghost use Rattle.plan.specs.Plan.{row};
 ghost use Rattle.chain.specs.Chain.{words, trimmed};
 ghost use Rattle.chain.specs.SumChain.{power};
-ghost use Rattle.chain.specs.ProductChain.{powerOfEach, raised};
 ghost use Rattle.chain.specs.Answer.{answered, chain};
 ghost use Rattle.folding.specs.Folding.{foldPower, foldRaise};
 ghost use Rattle.operands.specs.Operands.{One, Two, Folds, FoldsBoth};
@@ -35,32 +36,6 @@ fn power_of(f: [u64; 17], k: usize, n: u64) -> ChainAnswer
     r
 }
 
-// Every word to the n.
-fn power_each(f: [u64; 17], n: u64) -> [u64; 17]
-    ensures { λ r. ⌜ r ≡ words 64 (powerOfEach f n) ⌝ }
-{
-    let mut r = arrays::zeros();
-    let mut j = 0;
-    while j < 17 {
-        r[j] = word::power(f[j], n);
-        j += 1;
-    }
-    r
-}
-
-// c to every word; a 0 past a chain's length gives 1.
-fn raise_each(c: u64, f: [u64; 17]) -> [u64; 17]
-    ensures { λ r. ⌜ r ≡ words 64 (raised c f) ⌝ }
-{
-    let mut r = arrays::zeros();
-    let mut i = 0;
-    while i < 17 {
-        r[i] = word::power(c, f[i]);
-        i += 1;
-    }
-    r
-}
-
 // Chains and operators to the n: S^n if k*n is at most 16, every element of P, or a row.
 fn fold_high_power(plan: &mut [u64], first: usize, end: usize, n: u64) -> usize
     requires { ⌜ 2561 ≤ length (now plan) ⌝ }
@@ -76,7 +51,8 @@ fn fold_high_power(plan: &mut [u64], first: usize, end: usize, n: u64) -> usize
     let k = length_of(plan, root);
     let f = rows::elements(plan, root);
     if root_kind == 2 {
-        rows::put_product(plan, first, power_each(rows::with_ones(f, k), n));
+        let powers = word_by_word(Operation::Power, product_rows::with_ones(f, k), [n; 17]);
+        product_rows::put_product(plan, first, powers);
         return first + 1;
     }
     if root_kind == 1 {
@@ -128,7 +104,7 @@ pub fn fold_raise(plan: &mut [u64], left: usize, middle: usize, end: usize) -> u
         if exponent < 2 {
             let c = first_element(plan, base_root);
             let f = rows::elements(plan, exponent_root);
-            rows::put_product(plan, left, raise_each(c, f));
+            product_rows::put_product(plan, left, word_by_word(Operation::Power, [c; 17], f));
             return left + 1;
         }
     }

@@ -1,4 +1,5 @@
 // Products of operands that stand at the top of a lent plan.
+use arrays::Operation;
 use operands::append;
 use operands::is_constant;
 use operands::kind;
@@ -21,19 +22,6 @@ ghost use Rattle.folding.specs.Folding.{foldProduct};
 ghost use Rattle.rows.specs.Standing.{placed, filledWithOnes};
 ghost use Rattle.operands.specs.Operands.{Two, FoldsBoth};
 
-// Element by element.
-fn joint(f: [u64; 17], g: [u64; 17]) -> [u64; 17]
-    ensures { λ r. ⌜ r ≡ words 64 (jointProduct f g) ⌝ }
-{
-    let mut r = arrays::zeros();
-    let mut j = 0;
-    while j < 17 {
-        r[j] = word::times(f[j], g[j]);
-        j += 1;
-    }
-    r
-}
-
 // The product chain in row r, or a constant as its element 0, filled with ones.
 fn filled(plan: &[u64], r: usize) -> [u64; 17]
     requires { ⌜ 2561 ≤ length (now plan) ⌝ }
@@ -42,7 +30,7 @@ fn filled(plan: &[u64], r: usize) -> [u64; 17]
     ensures { λ f. ⌜ f ≡ filledWithOnes 17 (take (wordA (row (now (plan .entry)) r) + 1) (elements (row (now (plan .entry)) r))) ⌝ }
 {
     let length = length_of(plan, r);
-    rows::with_ones(rows::elements(plan, r), length)
+    product_rows::with_ones(rows::elements(plan, r), length)
 }
 
 // One of the rows a and b is the constant 0.
@@ -159,7 +147,7 @@ fn put_product_of_products(plan: &mut [u64], r: usize, a: usize, b: usize)
 {
     let f = filled(plan, a);
     let g = filled(plan, b);
-    rows::put_product(plan, r, joint(f, g));
+    product_rows::put_product(plan, r, arrays::word_by_word(Operation::Product, f, g));
 }
 
 // Constants 1 and 0 first, then sum chains, then product chains; anything else stays a row.
@@ -172,7 +160,7 @@ pub fn fold_product(plan: &mut [u64], left: usize, middle: usize, end: usize) ->
     let left_root = middle - 1;
     let right_root = end - 1;
     if is_constant(plan, left_root, 1) {
-        rows::move_down(plan, middle, end);
+        moved_rows::move_down(plan, middle, end);
         return right_root;
     }
     if is_constant(plan, right_root, 1) {

@@ -9,13 +9,13 @@ use lib.Dec.{ltb}
 use lib.ListN.{length, getD, set}
 use borrow.Author.Tests.{le-ltb, ltb-true, ltb-false}
 use Rattle.word.specs.Word as Word
-use Rattle.chain.specs.Chain.{value, rest, joined, words, withoutTrailing, trimmed, row}
-use Rattle.chain.specs.SumChain.{sum, difference}
-use Rattle.chain.specs.Answer.{chain, given, sumOutcome, differenceOutcome}
+use Rattle.chain.specs.Chain.{value, rest, joined, withoutTrailing, trimmed, row}
+use Rattle.chain.specs.SumChain.{sumAt, difference}
+use Rattle.chain.specs.Answer.{chain, given}
 use Rattle.chain.proofs.Trimming.{value-trimmed-sum, length-trimmed}
 use Rattle.chain.proofs.Calls.{sum-as, difference-as}
 use Rattle.folding.specs.Folded as Folded
-use Rattle.folding.specs.Folded.{Folded, sumRow, differenceRow, minusRow, isConstant, isSumChain, ofProduct, trimmedSum, trimmedProduct}
+use Rattle.folding.specs.Folded.{Folded, minusRow, isConstant, isSumChain, ofProduct, trimmedSum, trimmedProduct}
 use Rattle.folding.specs.Folding.{wordOf, is, isSum, constants, foldSum, foldDifference, foldMinus}
 use Rattle.folding.specs.Layout.{rowCount}
 use Rattle.folding.proofs.ReadBack.{some-rows}
@@ -23,25 +23,24 @@ use Rattle.rows.specs.Standing.{filledWithOnes}
 use Rattle.rows.proofs.Stood.{kindOf, one-row, no-constant, no-sum-chain, is-product-chain, no-chain}
 use Rattle.operands.proofs.OperandLaws.{Chain, row-taken, Sum, one, several}
 use Rattle.operands.proofs.OnesTrimmed.{filled-trimmed}
+use Rattle.fold_sums.specs.ByKind.{SumOrDifference, plus, less, foldSumOrDifference, chainOfBoth, bothOutcome, foldAlone, rowOfBoth}
 
--- ---- what chain::sum and chain::difference answer on rows of chains: the chains need not be trimmed first
-module _ (w : ℕ) (f g : List ℕ) (hf : Chain f) (hg : Chain g) where
+-- ---- what arithmetic::sum and arithmetic::difference answer on rows of chains: the chains need not be trimmed first
+both-as : {kind : ℕ} → SumOrDifference kind → (w : ℕ) (f f′ g g′ : List ℕ) → ((i : ℕ) → sumAt f i ≡ sumAt f′ i) → ((i : ℕ) → sumAt g i ≡ sumAt g′ i)
+    → length f′ ≤ 17 → length g′ ≤ 17 → trimmed 0 (row 17 (chainOfBoth w kind f g)) ≡ trimmed 0 (chainOfBoth w kind f′ g′)
+both-as plus = sum-as
+both-as less = difference-as
+
+module _ (w : ℕ) {kind : ℕ} (which : SumOrDifference kind) (f g : List ℕ) (hf : Chain f) (hg : Chain g) where
   trimmed-short : (f : List ℕ) → Chain f → length (trimmed 0 f) ≤ 17
   trimmed-short f h = length-trimmed f 16 (h .most)
 
-  sum-trimmed : trimmed 0 (words w (sum (trimmed 0 f) (trimmed 0 g))) ≡ trimmed 0 (words w (sum f g))
-  sum-trimmed =
+  both-trimmed : trimmed 0 (chainOfBoth w kind (trimmed 0 f) (trimmed 0 g)) ≡ trimmed 0 (chainOfBoth w kind f g)
+  both-trimmed =
       sym
-      (sum-as w f (trimmed 0 f) g (trimmed 0 g) (λ i. sym (value-trimmed-sum f i)) (λ i. sym (value-trimmed-sum g i))
+      (both-as which w f (trimmed 0 f) g (trimmed 0 g) (λ i. sym (value-trimmed-sum f i)) (λ i. sym (value-trimmed-sum g i))
       (trimmed-short f hf) (trimmed-short g hg))
-      ∙ sum-as w f f g g (λ i. refl) (λ i. refl) (hf .most) (hg .most)
-
-  difference-trimmed : trimmed 0 (difference w (trimmed 0 f) (trimmed 0 g)) ≡ trimmed 0 (difference w f g)
-  difference-trimmed =
-      sym
-      (difference-as w f (trimmed 0 f) g (trimmed 0 g) (λ i. sym (value-trimmed-sum f i)) (λ i. sym (value-trimmed-sum g i))
-      (trimmed-short f hf) (trimmed-short g hg))
-      ∙ difference-as w f f g g (λ i. refl) (λ i. refl) (hf .most) (hg .most)
+      ∙ both-as which w f f g g (λ i. refl) (λ i. refl) (hf .most) (hg .most)
 
   last-fits : (f : List ℕ) → Chain f → ltb 16 (length f - 1) ≡ false
   last-fits f h = le-ltb 16 (length f - 1) (omega (arith, h .most))
@@ -49,31 +48,23 @@ module _ (w : ℕ) (f g : List ℕ) (hf : Chain f) (hg : Chain g) where
   given-row : (f : List ℕ) → Chain f → given (row 17 f) (length f - 1) ≡ trimmed 0 f
   given-row f h = ap (trimmed 0) (row-taken f h)
 
-  pub sum-answer : sumOutcome w (row 17 f) (length f - 1) (row 17 g) (length g - 1) ≡ chain (trimmed 0 (words w (sum f g)))
-  sum-answer =
+  pub both-answer : bothOutcome w kind (row 17 f) (length f - 1) (row 17 g) (length g - 1) ≡ chain (trimmed 0 (chainOfBoth w kind f g))
+  both-answer =
       rw (last-fits f hf, last-fits g hg)
-      (ap chain (ap₂ (λ x y. trimmed 0 (words w (sum x y))) (given-row f hf) (given-row g hg) ∙ sum-trimmed))
-
-  pub difference-answer : differenceOutcome w (row 17 f) (length f - 1) (row 17 g) (length g - 1) ≡ chain (trimmed 0 (difference w f g))
-  difference-answer =
-      rw (last-fits f hf, last-fits g hg)
-      (ap chain (ap₂ (λ x y. trimmed 0 (difference w x y)) (given-row f hf) (given-row g hg) ∙ difference-trimmed))
+      (ap chain (ap₂ (λ x y. trimmed 0 (chainOfBoth w kind x y)) (given-row f hf) (given-row g hg) ∙ both-trimmed))
 
 -- ---- the rules for constants and sum chains: "C standing as f0"
-pub sum-rule : (w : ℕ) {a b : Folded} → Sum a → Sum b → foldSum w a b ≡ trimmedSum (words w (sum (Folded.elements a) (Folded.elements b)))
-unfolding foldSum joined trimmed withoutTrailing
-sum-rule w (one c) (one d) = refl
-sum-rule w (one c) (several g) = refl
-sum-rule w (several f) (one d) = refl
-sum-rule w (several f) (several g) = refl
-
-pub difference-rule : (w : ℕ) {a b : Folded} → Sum a → Sum b
-    → foldDifference w a b ≡ trimmedSum (difference w (Folded.elements a) (Folded.elements b))
-unfolding foldDifference joined trimmed withoutTrailing
-difference-rule w (one c) (one d) = refl
-difference-rule w (one c) (several g) = refl
-difference-rule w (several f) (one d) = refl
-difference-rule w (several f) (several g) = refl
+pub both-rule : (w : ℕ) {kind : ℕ} → SumOrDifference kind → {a b : Folded} → Sum a → Sum b
+    → foldSumOrDifference w kind a b ≡ trimmedSum (chainOfBoth w kind (Folded.elements a) (Folded.elements b))
+unfolding foldSum foldDifference joined trimmed withoutTrailing
+both-rule w plus (one c) (one d) = refl
+both-rule w plus (one c) (several g) = refl
+both-rule w plus (several f) (one d) = refl
+both-rule w plus (several f) (several g) = refl
+both-rule w less (one c) (one d) = refl
+both-rule w less (one c) (several g) = refl
+both-rule w less (several f) (one d) = refl
+both-rule w less (several f) (several g) = refl
 
 from-zero : (w : ℕ) (f : List ℕ) → 0 < length f → map (λ x. Word.negation w x) f ≡ difference w (0 ∷ []) f
 unfolding joined
@@ -92,17 +83,14 @@ no-constants true u true v h = h
 no-constants true u false v h = refl
 no-constants false u y v h = refl
 
-module _ (w : ℕ) (a b : Folded) (other : (isSum a && isSum b) ≡ false) where
-  none : constants a b ≡ false
-  none = no-constants (isConstant a) (isSumChain a) (isConstant b) (isSumChain b) other
+none : (a b : Folded) → (isSum a && isSum b) ≡ false → constants a b ≡ false
+none a b = no-constants (isConstant a) (isSumChain a) (isConstant b) (isSumChain b)
 
-  pub sum-otherwise : foldSum w a b ≡ cond (is 0 b) a (cond (is 0 a) b (sumRow a b))
-  unfolding foldSum
-  sum-otherwise = rw (none, other)
-
-  pub difference-otherwise : foldDifference w a b ≡ cond (is 0 b) a (cond (is 0 a) (foldMinus w b) (differenceRow a b))
-  unfolding foldDifference
-  difference-otherwise = rw (none, other)
+pub both-otherwise : (w : ℕ) {kind : ℕ} → SumOrDifference kind → (a b : Folded) → (isSum a && isSum b) ≡ false
+    → foldSumOrDifference w kind a b ≡ cond (is 0 b) a (cond (is 0 a) (foldAlone w kind b) (rowOfBoth kind a b))
+unfolding foldSum foldDifference
+both-otherwise w plus a b other = rw (none a b other, other)
+both-otherwise w less a b other = rw (none a b other, other)
 
 pub minus-otherwise : (w : ℕ) (a : Folded) → 2 < kindOf a → foldMinus w a ≡ minusRow a
 unfolding foldMinus
@@ -133,3 +121,7 @@ minus-rows w a = go (ltb 2 (kindOf a)) refl
     go : (t : Bool) → ltb 2 (kindOf a) ≡ t → rowCount a ≤ rowCount (foldMinus w a)
     go true e = omega (arith, ap rowCount (minus-otherwise w a (ltb-true 2 (kindOf a) e)))
     go false e = omega (arith, one-row a (ltb-false 2 (kindOf a) e), some-rows (foldMinus w a))
+
+pub alone-rows : (w : ℕ) {kind : ℕ} → SumOrDifference kind → (a : Folded) → rowCount a ≤ rowCount (foldAlone w kind a)
+alone-rows w plus a = omega arith
+alone-rows w less a = minus-rows w a

@@ -18,9 +18,11 @@ use Rattle.plan.specs.Plan as Plan
 use Rattle.plan.specs.Points.{rootValue, chainOf}
 use Rattle.plan.specs.Filling.{planAfter}
 use Rattle.plan.proofs.SoundLaws.{sound-row, sound-keeps, kept-base, earlier-row}
-use Rattle.plan.proofs.Sharing.{Call, written, planLeft, pointsOf, shared, length-points}
+use Rattle.plan.proofs.Sharing.{shared, length-points}
+use Rattle.plan.specs.Calls.{Call, written, planLeft, pointsOf}
 use Rattle.folding.specs.Folded.{Folded, constant, sumChain, productChain, sumRow, differenceRow, productRow, minusRow, powerRow, raiseRow, ofSum}
 use Rattle.folding.specs.Folding.{isSum, fold}
+use Rattle.folding.specs.OneChain.{OneSum}
 use Rattle.folding.specs.Layout.{rowCount, rowsFrom, planWords}
 use Rattle.folding.specs.Shape.{OddBase, WellFormed}
 use Rattle.folding.proofs.FoldShape.{accepted-formed, accepted-rows}
@@ -80,11 +82,6 @@ sound-base-row p sound r h e =
         ∙ and-eq-true-iff (keepsTable (length (Plan.firstRows r p)) (Plan.row p r)) _ .0 (sound-row p r sound h) .1
 
 -- ---- plans of one chain
--- A plan of one row, a constant or a sum chain.
-pub record OneSum (p : List ℕ) : Type 0 where
-  pub single : Plan.rowCount p ≡ 1
-  pub summing : kind (Plan.row p 0) ≤ 1
-
 one-row-sum : (a : Folded) → rowCount a ≡ 1 → kind (getD (rowsFrom 0 a) 0 []) ≤ 1 → isSum a ≡ true
 unfolding rowCount rowsFrom
 one-row-sum (constant c) e h = refl

@@ -23,7 +23,8 @@ use Rattle.plan.specs.Filling.{planAfter}
 use Rattle.plan.proofs.RowLaws.{values-append}
 use Rattle.plan.proofs.Keeping.{shifted-sum, shifted-product, shifted-other}
 use Rattle.plan.proofs.Later.{length-values, values-keep}
-use Rattle.plan.proofs.Sharing.{Call, written, pointsOf, shared, point-at}
+use Rattle.plan.proofs.Sharing.{shared, point-at}
+use Rattle.plan.specs.Calls.{Call, written, pointsOf}
 use Rattle.folding.specs.Folded.{Folded, constant, sumChain, productChain, sumRow, differenceRow, productRow, minusRow, powerRow, raiseRow}
 use Rattle.folding.specs.Folded.{isConstant, valueAt}
 use Rattle.folding.specs.Layout.{rowCount, rowWords, rootRow, behindBoth, rowsFrom, wordsOf, planWords}

@@ -9,6 +9,7 @@ use Rattle.formula.specs.Tree.{Tree, number, minus, literalPower, raise}
 use Rattle.formula.specs.Grammar.{Digits, no-digit, digit, Number, nought, digits, Sort, aSum, aProduct, aFactor, aPower, anAtom, Means, one-product, joined-by-plus, joined-by-minus, one-factor, joined-by-star, a-power, leading-minus, an-atom, to-a-number, to-a-sum, a-number, an-x, in-brackets, Formula}
 use Rattle.formula.specs.Refusals.{Begins}
 use Rattle.formula.specs.Scan.{Byte, plusByte, minusByte, starByte, caretByte, openByte, closeByte, xByte, zeroByte, digitByte, otherByte, byteOf, PendingSum, noSum, adding, subtracting, PendingProduct, noProduct, multiplying, Level, level, Outer, bottom, inBrackets, inExponent, fresh, State, operand, inNumber, atomed, afterCaret, inLiteral, powered, stopped, negatives, productWith, sumWith, productValue, sumValue, closed, afterPower, afterAtom, afterDigit, afterLiteralDigit, beforeOperand, beforeExponent, step, Outcome, reads, stops, ended, ending}
+use Rattle.formula.proofs.DigitLists.{digits-both, value-both}
 use Rattle.formula.proofs.Scanning.{Is, byte-is, negatives-minus}
 
 -- ---- an atom and a ^, at place p
@@ -163,18 +164,10 @@ first-digit : {c : ℕ} → 49 ≤ c → c ≤ 57 → Count (c ∷ []) (c - 48)
 unfolding digitsFrom
 first-digit {c} low high = count {v = c - 48} low high no-digit (omega arith)
 
-digits-append : (v : ℕ) (s : List ℕ) (c : ℕ) → digitsFrom v (s ++ c ∷ []) ≡ 10 * digitsFrom v s + (c - 48)
-unfolding digitsFrom
-digits-append v [] c = refl
-digits-append v (d ∷ s) c = digits-append (10 * v + (d - 48)) s c
-
-more-digits : {s : List ℕ} {c : ℕ} → Digits s → Digit c → Digits (s ++ c ∷ [])
-more-digits no-digit h = digit h no-digit
-more-digits (digit k rest) h = digit k (more-digits rest h)
-
 next-digit : {s : List ℕ} {v c : ℕ} → Count s v → Digit c → Count (s ++ c ∷ []) (10 * v + (c - 48))
+unfolding digitsFrom
 next-digit {c = c} (count {d} {ds} low high rest e) h =
-    count low high (more-digits rest h) (ap (λ x. 10 * x + (c - 48)) e ∙ sym (digits-append 0 (d ∷ ds) c))
+    count low high (digits-both rest (digit h no-digit)) (ap (λ x. 10 * x + (c - 48)) e ∙ sym (value-both 0 (d ∷ ds) (c ∷ [])))
 
 counted : {s : List ℕ} {v : ℕ} → Count s v → Number s v
 counted (count {d} {ds} low high rest e) = subst (λ x. Number (d ∷ ds) x) (sym e) (digits low high rest)

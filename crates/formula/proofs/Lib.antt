@@ -1,4 +1,5 @@
 -- Laws of the grammar and of the scan that decides it, and each way through the readers.
+pub mod DigitLists
 pub mod Scanning
 pub mod Reaching
 pub mod Holding

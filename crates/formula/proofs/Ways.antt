@@ -722,8 +722,8 @@ abbrev pub WholeBracket : List ℕ → ℕ → ℕ → ℕ → List ℕ → Foun
 WholeBracket = Got Outer (λ o. operand (fresh o)) (λ o t. powered (fresh o) t) NoSign
 
 module _ (l : List ℕ) (at n f : ℕ) (out : List ℕ) (s : Found) (now : List ℕ) where
-  pub bracket-lost : SumRead l (at + 1) n f out s now → s .ok ≡ false → BracketRead l at n f out s now
-  bracket-lost read no-tree = fails no-tree go
+  pub bracket-lost : SumRead l (at + 1) n f out s now → s .ok ≡ false → (r : Found) → r ≡ stopping (s .at) → BracketRead l at n f out r now
+  bracket-lost read no-tree r q = fails (ap (λ (x : Found). x .ok) q) (λ c. go c ∙ ap (λ p. stops p) (sym (ap (λ (x : Found). x .at) q)))
     where
       go : (c : Enclosing) → run (opened c) (at + 1) (drop (at + 1) l) ≡ stops (s .at)
       go (brackets lv) = lost read no-tree (inBrackets lv)

@@ -9,7 +9,7 @@ use lib.Dec.{eqb}
 use lib.ListN.{length, getD, take, drop}
 use Rattle.formula.specs.declared.ReadAnswer.{ReadAnswer}
 use Rattle.formula.specs.Bytes.{openBracket, closeBracket}
-use Rattle.formula.specs.Tree.{Tree, number, variable, sum, difference, product, minus, literalPower, raise, nodes, holdsX}
+use Rattle.formula.specs.Tree.{Tree, number, sum, difference, product, minus, literalPower, raise, nodes, holdsX}
 use Rattle.formula.specs.Grammar.{Formula}
 use Rattle.formula.specs.Value.{valueFor}
 use Rattle.formula.specs.Words.{treeWords}

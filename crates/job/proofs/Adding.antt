@@ -1,38 +1,16 @@
 -- The steps of a run add up to its definition: however the input is cut into reads and the output into writes, what the calls write is what
 -- `run` says. That the calls never get stuck is in GoingOn.antt.
 use mathlib.Core.Path.{_≡_, sym, ap, _∙_, subst}
-use mathlib.Core.Bool.{true}
-use mathlib.Core.List.{List, [], _++_}
+use mathlib.Core.List.{List, _++_}
 use Prim.Native.Nat.{ℕ}
-use lib.ListN.{drop}
 use Rattle.job.specs.declared.Progress.{Progress}
 use Rattle.job.specs.Run.{run}
-use Rattle.job.specs.Steps.{started, Buffers, Outcome, stepped, finished}
+use Rattle.job.specs.Steps.{started, Buffers}
+use Rattle.job.specs.Runs.{lent, written, Runs, ends, steps}
 use Rattle.job.proofs.Scanned.{run-is-scan}
 use Rattle.job.proofs.Readiness.{step-was-ready, end-was-ready}
-use Rattle.job.proofs.Stepping.{remaining, written, StepDone, step-done, end-done}
+use Rattle.job.proofs.Stepping.{remaining, StepDone, step-done, end-done}
 
--- ---- a run as a list of calls
-abbrev pub lent : (line defaults plan table out : List ℕ) → Buffers
-lent line defaults plan table out = record { line = line; defaults = defaults; plan = plan; table = table; out = out }
-
--- `Runs p line defaults input output`: calls from p on, over buffers whose line and defaults are as the call before left them, take the input
--- and write the output. Between the calls the caller may do with plan, table and out what it likes, and lend others. A step is lent some
--- chunk of what is left of the input, and what it did not use is left for the next one. Every call is accepted.
-pub data Runs : Progress → (line defaults input output : List ℕ) → Type 0 where
-  ends : {p : Progress} {line defaults output : List ℕ} (plan table out : List ℕ)
-      → finished p (lent line defaults plan table out) .answer .ok ≡ true
-      → output ≡ written (finished p (lent line defaults plan table out))
-      → Runs p line defaults [] output
-  steps : {p : Progress} {line defaults input output : List ℕ} (plan table out chunk rest later : List ℕ) (o : Outcome)
-      → input ≡ chunk ++ rest
-      → o ≡ stepped p chunk (lent line defaults plan table out)
-      → o .answer .ok ≡ true
-      → Runs (o .answer .progress) (o .buffers .line) (o .buffers .defaults) (drop (o .answer .used) chunk ++ rest) later
-      → output ≡ written o ++ later
-      → Runs p line defaults input output
-
--- ---- the theorem
 -- From anywhere in a run, the calls write what remains of it.
 pub adds-up-from : {p : Progress} {line defaults input output : List ℕ} → Runs p line defaults input output → output ≡ remaining p line defaults input
 adds-up-from {p} {line} {defaults} (ends plan table out ok e) =

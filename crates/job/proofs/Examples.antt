@@ -25,7 +25,8 @@ use Rattle.fields.specs.Judged.{sameBytes, judgedDefaults, judgedJob}
 use Rattle.printing.specs.Printed.{pointLines, verdictPrints, judgedPrints, jobPrints}
 use Rattle.job.specs.Run.{linePrints, afterLine, endPrints, linesPrint, run}
 use Rattle.job.specs.Steps.{started}
-use Rattle.job.proofs.Adding.{Runs, adds-up}
+use Rattle.job.proofs.Adding.{adds-up}
+use Rattle.job.specs.Runs.{Runs}
 
 -- ---- unfolded all the way
 -- A product of chains, a folded tree, a plan's cost and points, what is judged of a job line, and what a job prints.

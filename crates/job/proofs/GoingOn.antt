@@ -10,11 +10,11 @@ use Rattle.formula.proofs.BracketCount.{count-append}
 use Rattle.fields.specs.Parts.{lineFeed}
 use Rattle.job.specs.declared.Progress.{Progress}
 use Rattle.job.specs.Run.{run}
-use Rattle.job.specs.Steps.{started, Buffers, mostPrinted, ready, Outcome, stepped, finished}
+use Rattle.job.specs.Steps.{started, Buffers, ready, Outcome, stepped, finished}
+use Rattle.job.specs.Runs.{lent, Roomy, Runs, ends, steps}
 use Rattle.job.proofs.Scanned.{run-is-scan}
 use Rattle.job.proofs.Readiness.{is-ready, makes-ready, step-was-ready}
 use Rattle.job.proofs.Stepping.{remaining, remainingAfter, StepDone, step-done, EndDone, end-done}
-use Rattle.job.proofs.Adding.{lent, Runs, ends, steps}
 
 -- ---- where a run can go on
 -- What a call asks of progress, line and defaults, with some line feeds left in the input: job numbers stay below 2^64 - 1.
@@ -34,12 +34,6 @@ start-goes-on line defaults feeds h k few = record {
   kept = omega arith;
   numbers = omega arith;
 }
-
--- Plan, table and out that are long enough.
-pub record Roomy (plan table out : List ℕ) : Type 0 where
-  pub plan-room : 2561 ≤ length plan
-  pub table-room : 4096 ≤ length table
-  pub out-room : mostPrinted ≤ length out
 
 pub going-ready : {p : Progress} {line defaults plan table out : List ℕ} {feeds : ℕ} → GoesOn p line defaults feeds → Roomy plan table out
     → ready p (lent line defaults plan table out) ≡ true

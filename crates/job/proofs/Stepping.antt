@@ -15,6 +15,7 @@ use Rattle.job.specs.declared.Progress.{Progress}
 use Rattle.job.specs.Run.{Awaits, linePrints, afterLine, endPrints}
 use Rattle.job.specs.Steps.{awaits, ended, progressAfter, defaultsAfter, Buffers, ready, heldWith, over}
 use Rattle.job.specs.Steps.{Outcome, lineStep, partStep, stepped, stays, withEnd, finished}
+use Rattle.job.specs.Runs.{written}
 use Rattle.job.proofs.Scanned.{scan, scan-part, scan-line}
 use Rattle.job.proofs.HeldBytes.{first-bytes-print, first-bytes-after, first-bytes-scan}
 use Rattle.job.proofs.Readiness.{Ready, is-ready, by-step, by-end}
@@ -27,9 +28,6 @@ remaining p line defaults rest = scan (awaits p defaults) (take (p .held) line) 
 -- Where an outcome leaves the run.
 abbrev pub remainingAfter : Outcome → List ℕ → List ℕ
 remainingAfter o rest = remaining (o .answer .progress) (o .buffers .line) (o .buffers .defaults) rest
-
-abbrev pub written : Outcome → List ℕ
-written o = take (o .answer .wrote) (o .buffers .out)
 
 -- ---- the first line feed of an input is one of them
 pub feed-counted : (s : List ℕ) → 0 < count lineFeed s → count lineFeed (drop (length (before lineFeed s) + 1) s) + 1 ≡ count lineFeed s

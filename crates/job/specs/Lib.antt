@@ -1,3 +1,4 @@
--- What the contracts of `job` cite: what a whole run prints, and one step of it over lent buffers.
+-- What the contracts of `job` cite: what a whole run prints, one step of it over lent buffers, and runs as lists of calls.
 pub mod Run
 pub mod Steps
+pub mod Runs

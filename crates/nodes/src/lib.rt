@@ -5,7 +5,7 @@ pub mod faults;
 use formula::Found;
 use formula::Numeral;
 ghost use mathlib.Core.Path.{_≡_};
-ghost use mathlib.Core.Bool.{Bool, true, false, cond, _||_};
+ghost use mathlib.Core.Bool.{true, false, cond, _||_};
 ghost use Prim.Native.Nat.{_+_, _^_, _<_};
 ghost use lib.Dec.{eqb};
 ghost use Rattle.formula.specs.Readers.{put, wroteMinus, stopping, finding, literalFound, productFound, sumFound};

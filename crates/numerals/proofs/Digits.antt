@@ -12,13 +12,10 @@ use borrow.Author.Tests.{lt-ltb, le-ltb, ltb-true, ltb-false, ne-eqb}
 use Rattle.formula.specs.Bytes.{Digit, digitsFrom}
 use Rattle.formula.specs.Grammar.{Digits, no-digit, digit, Number, nought, digits}
 use Rattle.formula.specs.Refusals.{count}
+use Rattle.formula.proofs.DigitLists.{digits-both, value-both}
 use Rattle.numerals.specs.Decimal.{lastDigits, decimal}
 
 -- ---- lists of digits
-pub digits-both : {s t : List ℕ} → Digits s → Digits t → Digits (s ++ t)
-digits-both no-digit h = h
-digits-both (digit d more) h = digit d (digits-both more h)
-
 pub digit-at : {s : List ℕ} → Digits s → (i : ℕ) → i < length s → Digit (getD s i 0)
 digit-at no-digit i h = absurd (not-suc-le-zero h)
 digit-at (digit d more) zero h = d
@@ -30,12 +27,7 @@ unfolding count
 none-below no-digit b h = refl
 none-below (digit {d} {ds} small more) b h = rw (ne-eqb d b (λ e. omega (arith, e, small))) (none-below more b h)
 
--- The value of digits goes on from the value of those before them, and is never smaller.
-pub value-both : (v : ℕ) (s t : List ℕ) → digitsFrom v (s ++ t) ≡ digitsFrom (digitsFrom v s) t
-unfolding digitsFrom
-value-both v [] t = refl
-value-both v (d ∷ s) t = value-both (10 * v + (d - 48)) s t
-
+-- The value of digits is never smaller than that of those before them.
 pub value-grows : (v : ℕ) (s : List ℕ) → v ≤ digitsFrom v s
 unfolding digitsFrom
 value-grows v [] = omega arith

@@ -37,7 +37,7 @@ use Rattle.folding.specs.Folding.{fold}
 use Rattle.folding.specs.Layout.{planWords}
 use Rattle.folding.proofs.ReadBack.{take-row}
 use Rattle.folding.proofs.Compiled as Compiled
-use Rattle.folding.proofs.Compiled.{OneSum}
+use Rattle.folding.specs.OneChain.{OneSum}
 use Rattle.compile.specs.declared.CompileAnswer.{CompileAnswer}
 use Rattle.compile.specs.Compiling.{Compiling, too-short, refused, accepted}
 use Rattle.plan.specs.Plan as Plan
@@ -46,7 +46,8 @@ use Rattle.plan.specs.Points.{rootValue}
 use Rattle.plan.specs.Filling.{pointCost, pointsFor, planAfter, pointValues, fill}
 use Rattle.plan.proofs.Keeping.{cost-after, refusal-after}
 use Rattle.plan.proofs.Accepting.{fill-accepted, refused-alters-nothing}
-use Rattle.plan.proofs.Sharing.{after-add, length-points, point-at, Call, written, planLeft, pointsOf, shared}
+use Rattle.plan.proofs.Sharing.{after-add, length-points, point-at, shared}
+use Rattle.plan.specs.Calls.{Call, written, planLeft, pointsOf}
 
 -- ---- compile: every input has an answer
 answer-to : (s : List ℕ) (start step : ℕ) (lent : List ℕ) (v : Verdict) → Right s v → 2561 ≤ length lent

@@ -8,15 +8,15 @@ use mathlib.Core.List.{List, [], _++_}
 use Prim.Native.Nat.{ℕ, suc, _+_, _-_, _*_, _%_, _^_, _≤_, _<_}
 use native.Mathlib.Nat.{mul-one}
 use native.Mathlib.Omega.{arith}
-use lib.ListN.{length, getD, take, drop, replicate}
+use lib.ListN.{length, getD, take, drop}
 use lib.IntN.{pos, negℤ}
 use lib.Signed.{_<ℤ_, _≤ℤ_}
 use borrow.Author.Tests.{lt-ltb, le-ltb}
 use Rattle.word.specs.Word as Word
-use Rattle.formula.specs.Tree.{Tree, number, literalPower, raise, nodes, holdsX}
+use Rattle.formula.specs.Tree.{Tree}
 use Rattle.formula.specs.Grammar.{Formula}
-use Rattle.formula.specs.Value.{valueFor, directValue}
-use Rattle.formula.specs.Refusals.{count, TooDeep, StopsAt, Part, Fault, too-long, too-deep, not-grammar, Refused, Accepted}
+use Rattle.formula.specs.Value.{directValue}
+use Rattle.formula.specs.Refusals.{count, TooDeep, StopsAt, Fault, too-long, too-deep, not-grammar, Refused, Accepted}
 use Rattle.formula.proofs.Answers.{accepted-fits, accepted-base}
 use Rattle.formula.proofs.GrammarScan.{unambiguous, decided}
 use Rattle.chain.specs.declared.ChainAnswer.{ChainAnswer}
@@ -38,11 +38,11 @@ use Rattle.plan.specs.Points.{rootValue}
 use Rattle.plan.specs.Filling.{pointCost, pointsFor, planAfter, filled, fillRefused, fill, costAnswer, soundAnswer}
 use Rattle.plan.proofs.Accepting.{refused-alters-nothing}
 use Rattle.plan.proofs.Sharing as Sharing
-use Rattle.plan.proofs.Sharing.{Call, planLeft, pointsOf, written}
+use Rattle.plan.specs.Calls.{Call, planLeft, pointsOf, written}
 use Rattle.folding.specs.Folding.{fold}
 use Rattle.folding.specs.Layout.{planWords}
 use Rattle.folding.proofs.Compiled as Compiled
-use Rattle.folding.proofs.Compiled.{OneSum}
+use Rattle.folding.specs.OneChain.{OneSum}
 use Rattle.compile.specs.declared.CompileAnswer.{CompileAnswer}
 use Rattle.compile.specs.Compiling.{Compiling, too-short, refused, accepted}
 use Rattle.compile.proofs.Promise.{compiling-unique}
@@ -56,8 +56,11 @@ use Rattle.job.specs.declared.Progress.{Progress}
 use Rattle.job.specs.Run.{run}
 use Rattle.job.specs.Steps.{started, Buffers, ready, stepped, finished}
 use Rattle.job.proofs.Readiness.{refused-step, refused-end}
-use Rattle.job.proofs.Adding.{Runs, adds-up}
-use Rattle.job.proofs.GoingOn.{Roomy, every-input-runs}
+use Rattle.job.proofs.Adding.{adds-up}
+use Rattle.job.specs.Runs.{Runs}
+use Rattle.job.proofs.GoingOn.{every-input-runs}
+use Rattle.job.specs.Runs.{Roomy}
+use Rattle.otterchime.specs.Demanded.{noChain, Allowed, valueOf, Answers}
 use Rattle.otterchime.proofs.Bridges as Bridges
 
 -- ======== Demand 1: "Formulas, job lines, plans and lent tables may hold anything at all. The library answers or refuses, with the number and
@@ -136,10 +139,7 @@ pub refused-fill-keeps : (p table : List ℕ) (budget : ℕ) → (fill 64 p tabl
 refused-fill-keeps p table budget some =
     rw (refused-alters-nothing 64 p table budget (λ e. some (Bridges.fill-number p table budget ∙ e))) (refl, refl, refl, refl)
 
--- ---- the chain calls: "Refused chain calls (13 to 15) return the constant 0 beside the number", place 0
-abbrev pub noChain : ℕ → ChainAnswer
-noChain n = record { number = n; place = 0; length = 0; elements = replicate 17 0 }
-
+-- ---- the chain calls: "Refused chain calls (13 to 15) return the constant 0 beside the number", place 0, which is `noChain`
 -- "14: a chain given with length over 16", of one chain or of either of two, and ahead of 15; "A refused value call answers the word 0".
 pub chain-long : (f : List ℕ) (k : ℕ) → 16 < k
     → (answered (trimOutcome f k) ≡ noChain 14) × (answered (shiftOutcome 64 f k) ≡ noChain 14)
@@ -172,16 +172,7 @@ probe-refused reading expected tolerance h = rw (le-ltb tolerance (half 64) h)
 
 -- ======== Demand 2: "Reading follows 01's grammar and limits, no text more and no text less. Chains mean what the papers say, modulo 2^64; every
 -- product, sum, shift and offset is right by that meaning. Compiling folds exactly where 01 folds, and the plan has 01's layout."
--- ---- "01's grammar and limits": the text means a tree, and keeps every limit of 2, 3 and 5 to 8
-pub record Allowed (s : List ℕ) (t : Tree) : Type 0 where
-  pub grammar : Formula s t
-  pub bytes : length s ≤ 1024
-  pub brackets : (p : ℕ) → TooDeep s p → ⊥
-  pub numbers : (p v : ℕ) → Part (number p v) t → v < 2 ^ 64
-  pub exponents : (a : Tree) (p n : ℕ) → Part (literalPower a p n) t → n ≤ 64
-  pub size : nodes t ≤ 128
-  pub bases : (a b : Tree) (p : ℕ) → Part (raise a p b) t → (holdsX a ≡ false) × (valueFor 64 0 a % 2 ≡ 1)
-
+-- ---- "01's grammar and limits": the text means a tree, and keeps every limit of 2, 3 and 5 to 8, which is `Allowed`
 allowed : {s : List ℕ} {t : Tree} → Accepted 64 s t → Allowed s t
 allowed {s} A =
     let long : 1024 < length s → ⊥ = λ h. A .faultless _ _ (too-long h) in
@@ -244,19 +235,7 @@ pub product-chains-mean : (f : List ℕ) (i : ℕ)
     × (productAt (Chain.words 64 f) i % 2 ^ 64 ≡ productAt f i % 2 ^ 64)
 product-chains-mean f i = (Values.value-now _*_ 1 mul-one f, Values.value-next _*_ 1 mul-one f i, value-product-words 64 f i)
 
--- The value at index i of a chain that is given as words and a length: words past the length are not read.
-abbrev pub valueOf : List ℕ → ℕ → ℕ → ℕ
-valueOf f k i = Word.word 64 (sumAt (take (k + 1) f) i)
-
--- The call is accepted, its chain is trimmed with 0 past its length, and has these values, at every index.
-pub record Answers (r : ChainAnswer) (values : ℕ → ℕ) : Type 0 where
-  pub number : r .number ≡ 0
-  pub place : r .place ≡ 0
-  pub short : r .length ≤ 16
-  pub last : 0 < r .length → getD (r .elements) (r .length) 0 ≡ 0 → ⊥
-  pub past : (j : ℕ) → r .length < j → getD (r .elements) j 0 ≡ 0
-  pub right : (i : ℕ) → valueOf (r .elements) (r .length) i ≡ values i
-
+-- `Answers` says that a call is accepted and which values its chain has; `valueOf` reads a chain that is given as words and a length.
 answers : (f : List ℕ) {values : ℕ → ℕ} → length f ≤ 17 → ((i : ℕ) → Word.word 64 (sumAt f i) ≡ values i)
     → Answers (answered (chain (Chain.trimmed 0 f))) values
 answers f short same =

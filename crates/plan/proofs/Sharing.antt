@@ -13,7 +13,8 @@ use Rattle.plan.specs.declared.CostAnswer.{CostAnswer}
 use Rattle.plan.specs.declared.SoundAnswer.{SoundAnswer}
 use Rattle.plan.specs.Plan.{refusal}
 use Rattle.plan.specs.Points.{rootValue, shiftedPlan}
-use Rattle.plan.specs.Filling.{pointCost, pointsFor, planAfter, pointValues, Filled, filled, fill, costAnswer, soundAnswer}
+use Rattle.plan.specs.Filling.{pointCost, pointsFor, planAfter, pointValues, filled, fill, costAnswer, soundAnswer}
+use Rattle.plan.specs.Calls.{Call, called, written, planLeft, pointsOf, spentOf}
 use Rattle.plan.proofs.Keeping.{cost-after, refusal-after}
 use Rattle.plan.proofs.Accepting.{fill-accepted}
 
@@ -65,31 +66,7 @@ pub writes-one : (w : ℕ) (p table : List ℕ) (budget : ℕ) → refusal p ≡
 writes-one w p table budget e room enough =
     rw (fill-accepted w p table budget e) (le-min room (le-div-iff-mul-le {k = pointCost p} (omega arith) .1 (omega arith)))
 
--- ---- calls one after the other, each with a table and a budget of its own and the plan as the call before it left it
-pub record Call : Type 0 where
-  pub table : List ℕ
-  pub budget : ℕ
-
-abbrev pub called : ℕ → List ℕ → Call → Filled
-called w p call = fill w p (call .table) (call .budget)
-
--- What the calls write, each its points; the plan that they leave; and the points and the budget of all their answers.
-unfoldable pub written : ℕ → List ℕ → List Call → List ℕ
-written w p [] = []
-written w p (call ∷ calls) = take (called w p call .answer .points) (called w p call .table) ++ written w (called w p call .plan) calls
-
-unfoldable pub planLeft : ℕ → List ℕ → List Call → List ℕ
-planLeft w p [] = p
-planLeft w p (call ∷ calls) = planLeft w (called w p call .plan) calls
-
-unfoldable pub pointsOf : ℕ → List ℕ → List Call → ℕ
-pointsOf w p [] = 0
-pointsOf w p (call ∷ calls) = (called w p call .answer .points) + pointsOf w (called w p call .plan) calls
-
-unfoldable pub spentOf : ℕ → List ℕ → List Call → ℕ
-spentOf w p [] = 0
-spentOf w p (call ∷ calls) = (called w p call .answer .spent) + spentOf w (called w p call .plan) calls
-
+-- ---- calls one after the other
 -- The points of an accepted call.
 abbrev pointsBy : List ℕ → Call → ℕ
 pointsBy p call = pointsFor p (length (call .table)) (call .budget)

@@ -1,5 +1,6 @@
--- What the contracts of `plan` cite: rows and their table, soundness, cost, values, shifts, and what filling answers and leaves.
+-- What the contracts of `plan` cite: rows and their table, soundness, cost, values, shifts, what filling answers and leaves, and calls one after the other.
 pub mod Row
 pub mod Plan
 pub mod Points
 pub mod Filling
+pub mod Calls

@@ -49,10 +49,10 @@ fn read_bracket(text: &[u8], tree: &mut [u64], at: usize, nodes: usize, fault: u
     ensures { λ r. ⌜ BracketRead (now (text .entry)) at nodes fault (now (tree .entry)) r (now (tree .exit)) ⌝ }
 {
     let sum = read_sum(text, tree, at + 1, nodes, fault);
-    if !sum.ok {
-        return sum;
-    }
     let end = sum.at;
+    if !sum.ok {
+        return stopped(end);
+    }
     if byte_at(text, end) != 41 {
         return stopped(end);
     }

@@ -11,7 +11,7 @@ use lib.Seq.{take-nil, take-all, drop-cons, set-at, getD-take, length-take-le, a
 use borrow.Author.Tests.{eq-eqb, ne-eqb}
 use Rattle.chain.specs.Chain.{withLast, withoutTrailing, trimmed, row}
 use Rattle.chain.proofs.Rows.{entry-row, row-whole, row-take}
-use Rattle.rows.specs.declared.products.Trimmed.{Trimmed}
+use Rattle.rows.specs.declared.Trimmed.{Trimmed}
 use Rattle.rows.specs.Standing.{filledWithOnes}
 
 -- Elements and then ones.

@@ -16,7 +16,7 @@ use Rattle.plan.proofs.RowLaws.{word-at}
 use Rattle.plan.proofs.SoundLaws.{kind-at}
 use Rattle.folding.specs.Folded.{ofSum, ofProduct, trimmedProduct}
 use Rattle.folding.specs.Layout.{rowWords, rowsFrom, wordsOf}
-use Rattle.rows.specs.declared.products.Trimmed.{Trimmed}
+use Rattle.rows.specs.declared.Trimmed.{Trimmed}
 use Rattle.rows.specs.Standing.{withRow, placed, lowered}
 use Rattle.rows.proofs.Ones.{trimming}
 

@@ -1,11 +1,5 @@
-// Rows of a lent plan, read and written whole: elements, chains and operators, and rows moved down by one.
-// Which operands fold, and to what, is decided in the crates above.
-mod moving;
-mod products;
-
-pub use moving::move_down;
-pub use products::put_product;
-pub use products::with_ones;
+// Rows of a lent plan, read and written whole: elements, chains and operators.
+// Product chains are put into rows by `product_rows`, rows moved down by `moved_rows`; which operands fold is decided in the crates above.
 ghost use mathlib.Core.Path.{_≡_};
 ghost use mathlib.Core.Bool.{cond};
 ghost use mathlib.Core.List.{_∷_};
@@ -15,6 +9,12 @@ ghost use lib.ListN.{length};
 ghost use Rattle.plan.specs.Row.{elements};
 ghost use Rattle.plan.specs.Plan.{row};
 ghost use Rattle.rows.specs.Standing.{withRow};
+
+// A product chain without its trailing ones: its length and its elements, 0 past them.
+pub struct Trimmed {
+    pub length: usize,
+    pub elements: [u64; 17],
+}
 
 // The 17 element words of row r.
 pub fn elements(plan: &[u64], r: usize) -> [u64; 17]

@@ -1,48 +1,20 @@
 -- `sum` answers the trimmed sum of the trimmed inputs.
-use native.Mathlib.Omega.{arith}
-use borrow.Author.Tests.{lt-ltb, le-ltb}
+use Prim.Native.Nat.{_+_}
+use lib.ListN.{take}
 use borrow.Author.Needs.{needs}
+use Rattle.chain.proofs.Trimming.{length-row}
 use Rattle.chain.proofs.Calls.{sum-trims}
+use Rattle.arrays.proofs.Paired.{sums-by-word}
 use Rattle.arithmetic.proofs.sum.Statement.{statement}
 use Rattle.arithmetic.proofs.sum.Tie as tie
 
-refusal-requires : tie.Need-refusal-requires
-refusal-requires c κs = search needs
+combined-requires : tie.Need-combined-requires
+combined-requires c κs = search needs
 
 returns : tie.Need-returns
-returns c = rw ((c .refusal .ensures), lt-ltb 16 (c .before .before .args .k) (omega arith))
-
-refusal-requires-2 : tie.Need-refusal-requires-2
-refusal-requires-2 c κs = search needs
-
-returns-2 : tie.Need-returns-2
-returns-2 c = rw ((c .refusal2 .ensures), le-ltb 16 (c .before .before .before .args .k) (omega arith), lt-ltb 16 (c .before .before .before .args .l) (omega arith))
-
-kept-requires : tie.Need-kept-requires
-kept-requires c κs = search needs
-
-kept-requires-2 : tie.Need-kept-requires-2
-kept-requires-2 c κs = search needs
-
-sum-words-requires : tie.Need-sum-words-requires
-sum-words-requires c κs = search needs
-
-accepted-requires : tie.Need-accepted-requires
-accepted-requires c κs = search needs
-
-returns-3 : tie.Need-returns-3
-returns-3 c = rw ((c .accepted .ensures), (c .before .sum-words .ensures), (c .before .before .before .kept .ensures), (c .before .before .kept2 .ensures), le-ltb 16 (c .before .before .before .before .before .before .args .k) (omega arith), le-ltb 16 (c .before .before .before .before .before .before .args .l) (omega arith), sum-trims 64 (c .before .before .before .before .before .before .args .f) (c .before .before .before .before .before .before .args .k) (search needs) (c .before .before .before .before .before .before .args .g) (c .before .before .before .before .before .before .args .l) (search needs))
+returns c =
+    let args = c .before .args in
+    rw (c .combined .ensures, sums-by-word _ (length-row 17 (take (args .k + 1) (args .f))) _ (length-row 17 (take (args .l + 1) (args .g))), sum-trims 64 (args .f) (args .k) (search needs) (args .g) (args .l) (search needs))
 
 pub sum-spec : {M : Type 1} → statement M
-sum-spec =
-    tie.close
-    (tie.spec
-    refusal-requires
-    returns
-    refusal-requires-2
-    returns-2
-    kept-requires
-    kept-requires-2
-    sum-words-requires
-    accepted-requires
-    returns-3)
+sum-spec = tie.close (tie.spec combined-requires returns)

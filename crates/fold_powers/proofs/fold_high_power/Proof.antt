@@ -1,5 +1,7 @@
 -- `fold_high_power` folds product chains and short sum chains; anything else becomes a row.
+use mathlib.Core.Path.{_∙_}
 use native.Mathlib.Omega.{arith}
+use Rattle.arrays.proofs.Paired.{powers-by-word}
 use Rattle.operands.proofs.OperandLaws.{operand-some, operand-short}
 use Rattle.operands.proofs.Leaving.{room-of-one}
 use Rattle.fold_powers.proofs.PowerChains.{times-fits}
@@ -22,12 +24,12 @@ elements-requires c κs = search needs
 
 with-ones-requires : tie.Need-with-ones-requires
 with-ones-requires c κs =
-    operand-short (c .before .before .before .before .before .before .before .before .before .pre .1 .1 .1 .1 .0 .1)
-    (omega (arith, c .before .before .before .before .before .before .kind .ensures, c .before .if1 .taken))
-    (c .before .before .before .before .length-of .ensures)
+    operand-short (c .before .before .before .before .before .before .before .before .pre .1 .1 .1 .1 .0 .1)
+    (omega (arith, c .before .before .before .before .before .kind .ensures, c .if1 .taken))
+    (c .before .before .before .length-of .ensures)
 
-power-each-requires : tie.Need-power-each-requires
-power-each-requires c κs = search needs
+word-by-word-requires : tie.Need-word-by-word-requires
+word-by-word-requires c κs = search needs
 
 put-product-requires : tie.Need-put-product-requires
 put-product-requires c κs = search needs
@@ -46,7 +48,9 @@ returns c =
     (start .pre .1 .1 .0) (start .pre .1 .1 .1 .1 .1) (c .before .before .before .before .before .before .if1 .taken)
     (c .before .before .before .before .before .before .before .before .before .length-of .ensures)
     (c .before .before .before .before .before .before .before .elements .ensures)
-    (c .before .before .before .before .with-ones .ensures) (c .before .before .before .power-each .ensures) (c .before .before .put-product .ensures)
+    (c .before .before .before .before .before .with-ones .ensures)
+    (c .before .before .before .before .word-by-word .ensures ∙ powers-by-word (c .before .before .before .before .before .with-ones .result) (search needs) (start .args .n))
+    (c .before .before .put-product .ensures)
 
 mul-if3 : tie.Need-mul-if3
 mul-if3 c =
@@ -107,7 +111,7 @@ fold-high-power-spec =
     length-of-requires
     elements-requires
     with-ones-requires
-    power-each-requires
+    word-by-word-requires
     put-product-requires
     add-result
     same-length

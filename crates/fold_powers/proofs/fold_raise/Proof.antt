@@ -1,5 +1,7 @@
 -- `fold_raise` folds a constant to a constant or a sum chain; anything else becomes a row.
+use mathlib.Core.Path.{_∙_}
 use native.Mathlib.Omega.{arith}
+use Rattle.arrays.proofs.Paired.{raises-by-word}
 use Rattle.operands.proofs.OperandLaws.{operands-some}
 use Rattle.operands.proofs.Leaving.{room-of-both}
 use Rattle.fold_powers.proofs.PowerOperands.{raise-folded, raise-as-row, either-way}
@@ -25,8 +27,8 @@ first-element-requires c κs = search needs
 elements-requires : tie.Need-elements-requires
 elements-requires c κs = search needs
 
-raise-each-requires : tie.Need-raise-each-requires
-raise-each-requires c κs = search needs
+word-by-word-requires : tie.Need-word-by-word-requires
+word-by-word-requires c κs = search needs
 
 put-product-requires : tie.Need-put-product-requires
 put-product-requires c κs = search needs
@@ -44,7 +46,8 @@ returns c =
     raise-folded (args .plan .now) (args .left) (args .middle) (args .end) (tests .before .before .before .before .kind .ensures)
     (tests .before .before .kind2 .ensures) (tests .before .if1 .taken) (tests .if2 .taken)
     (c .before .before .before .before .before .before .before .first-element .ensures) (c .before .before .before .before .before .elements .ensures)
-    (c .before .before .before .raise-each .ensures) (c .before .before .put-product .ensures)
+    (c .before .before .before .word-by-word .ensures ∙ raises-by-word (c .before .before .before .before .before .elements .result) (search needs) _)
+    (c .before .before .put-product .ensures)
 
 append-requires : tie.Need-append-requires
 append-requires c κs = search needs
@@ -73,7 +76,7 @@ fold-raise-spec =
     kind-requires-2
     first-element-requires
     elements-requires
-    raise-each-requires
+    word-by-word-requires
     put-product-requires
     add-result
     same-length

@@ -2,6 +2,7 @@
 use mathlib.Core.Path.{ap, ap₂, _∙_}
 use Rattle.chain.specs.Chain.{words}
 use Rattle.chain.specs.ProductChain.{jointProduct}
+use Rattle.arrays.proofs.Paired.{products-by-word}
 use Rattle.folding.specs.Folded.{trimmedProduct}
 use Rattle.rows.specs.Standing.{placed}
 use borrow.Author.Needs.{needs}
@@ -14,8 +15,8 @@ filled-requires c κs = search needs
 filled-requires-2 : tie.Need-filled-requires-2
 filled-requires-2 c κs = search needs
 
-joint-requires : tie.Need-joint-requires
-joint-requires c κs = search needs
+word-by-word-requires : tie.Need-word-by-word-requires
+word-by-word-requires c κs = search needs
 
 put-product-requires : tie.Need-put-product-requires
 put-product-requires c κs = search needs
@@ -26,10 +27,13 @@ same-length c = search needs
 returns : tie.Need-returns
 returns c =
     let args = c .before .before .before .before .before .before .before .before .before .before .args in
+    let first = c .before .before .before .before .before .before .before .filled in
+    let second = c .before .before .before .before .before .filled2 in
     c .before .before .put-product .ensures
     ∙ ap (λ f. placed (args .plan .now) (args .r) (trimmedProduct f))
-    (c .before .before .before .joint .ensures
-    ∙ ap₂ (λ f g. words 64 (jointProduct f g)) (c .before .before .before .before .before .before .before .filled .ensures) (c .before .before .before .before .before .filled2 .ensures))
+    (c .before .before .before .word-by-word .ensures
+    ∙ products-by-word (first .result) (search needs) (second .result) (search needs)
+    ∙ ap₂ (λ f g. words 64 (jointProduct f g)) (first .ensures) (second .ensures))
 
 pub put-product-of-products-spec : {M : Type 1} → statement M
 put-product-of-products-spec =
@@ -37,7 +41,7 @@ put-product-of-products-spec =
     (tie.spec
     filled-requires
     filled-requires-2
-    joint-requires
+    word-by-word-requires
     put-product-requires
     same-length
     returns)

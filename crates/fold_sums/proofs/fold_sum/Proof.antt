@@ -1,34 +1,23 @@
--- `fold_sum` adds constants and sum chains, leaves A of A + 0 and 0 + A, and otherwise appends the sum's row.
+-- `fold_sum` adds or subtracts constants and sum chains, leaves A of A + 0, A - 0 and 0 + A and minus A of 0 - A, and otherwise appends the row.
 use native.Mathlib.Omega.{arith}
 use Rattle.operands.proofs.OperandLaws.{operand-some}
-use Rattle.fold_sums.proofs.SumOperands.{leaves-sum, leaves-left, leaves-right, leaves-sum-row}
+use Rattle.operands.proofs.Leaving.{room-of-both}
+use Rattle.fold_sums.proofs.SumOperands.{leaves-chain, leaves-left, moved-operand, leaves-alone, leaves-row}
 use borrow.Author.Needs.{needs}
 use Rattle.fold_sums.proofs.fold_sum.Statement.{statement}
 use Rattle.fold_sums.proofs.fold_sum.Tie as tie
 
 sub-left-root : tie.Need-sub-left-root
-sub-left-root c = omega (arith, operand-some (c .before .pre .1 .1 .2 .first))
+sub-left-root c = omega (arith, operand-some (c .before .pre .1 .1 .1 .2 .first))
 
 sub-right-root : tie.Need-sub-right-root
-sub-right-root c = omega (arith, operand-some (c .before .pre .1 .1 .2 .second))
+sub-right-root c = omega (arith, operand-some (c .before .pre .1 .1 .1 .2 .second))
 
 both-sums-requires : tie.Need-both-sums-requires
 both-sums-requires c κs = search needs
 
-elements-requires : tie.Need-elements-requires
-elements-requires c κs = search needs
-
-length-of-requires : tie.Need-length-of-requires
-length-of-requires c κs = search needs
-
-elements-requires-2 : tie.Need-elements-requires-2
-elements-requires-2 c κs = search needs
-
-length-of-requires-2 : tie.Need-length-of-requires-2
-length-of-requires-2 c κs = search needs
-
-sum-requires : tie.Need-sum-requires
-sum-requires c κs = search needs
+chain-of-both-requires : tie.Need-chain-of-both-requires
+chain-of-both-requires c κs = search needs
 
 put-sum-requires : tie.Need-put-sum-requires
 put-sum-requires c κs = search needs
@@ -41,15 +30,10 @@ same-length c = search needs
 
 returns : tie.Need-returns
 returns c =
+    let test = c .before .before .before .before .before .before in
     λ a b o.
-    leaves-sum a b o
-    (c .before .before .before .before .before .before .before .before .before .before .before .before .before .before .both-sums .ensures)
-    (c .before .before .before .before .before .before .before .before .before .before .before .before .before .if1 .taken)
-    (c .before .before .before .before .before .before .before .before .before .before .before .elements .ensures)
-    (c .before .before .before .before .before .before .before .before .before .length-of .ensures)
-    (c .before .before .before .before .before .before .before .elements2 .ensures)
-    (c .before .before .before .before .before .length-of2 .ensures) (c .before .before .before .sum .ensures)
-    (c .before .before .put-sum .ensures)
+    leaves-chain (test .before .before .before .before .pre .1 .1 .0) a b o (test .before .both-sums .ensures) (test .if1 .taken)
+    (c .before .before .before .before .chain-of-both .ensures) (c .before .before .put-sum .ensures)
 
 is-constant-requires : tie.Need-is-constant-requires
 is-constant-requires c κs = search needs
@@ -59,8 +43,9 @@ same-length-2 c = search needs
 
 returns-2 : tie.Need-returns-2
 returns-2 c =
+    let sums = c .before .before .before in
     λ a b o.
-    leaves-left a b o (c .before .before .before .before .both-sums .ensures) (c .before .before .before .if1 .left)
+    leaves-left (sums .before .before .before .before .pre .1 .1 .0) a b o (sums .before .both-sums .ensures) (sums .if1 .left)
     (c .before .is-constant .ensures) (c .if2 .taken)
 
 is-constant-requires-2 : tie.Need-is-constant-requires-2
@@ -68,21 +53,35 @@ is-constant-requires-2 c κs = search needs
 
 move-down-requires : tie.Need-move-down-requires
 move-down-requires c κs =
-    let operands = c .before .before .before .before .before .before .before .before .before .before .before .pre .1 .1 .2 in
-    (omega arith, (omega (arith, operand-some (operands .first)), (omega (arith, operand-some (operands .second)), omega arith)))
+    let o = c .before .before .before .before .before .before .before .before .before .before .before .pre .1 .1 .1 .2 in
+    (omega arith, (omega (arith, operand-some (o .first)), (omega (arith, operand-some (o .second)), omega arith)))
+
+fold-alone-requires : tie.Need-fold-alone-requires
+fold-alone-requires c κs =
+    let left = c .before .before .before .before .before in
+    let right = left .before .before .before in
+    let sums = right .before .before .before in
+    let pre = sums .before .before .before .before .pre in
+    let (a, b, o) = pre .1 .1 .1 in
+    let moved =
+    moved-operand (pre .1 .1 .0) a b o (sums .before .both-sums .ensures) (sums .if1 .left) (right .before .is-constant .ensures)
+    (right .if2 .left) (room-of-both o (pre .0) (pre .1 .0)) (left .before .is-constant2 .ensures) (left .if3 .taken)
+    (c .before .before .before .move-down .ensures) in
+    (omega arith, (omega arith, (b, moved)))
 
 same-length-3 : tie.Need-same-length-3
 same-length-3 c = search needs
 
 returns-3 : tie.Need-returns-3
 returns-3 c =
+    let left = c .before .before .before .before .before .before .before .before in
+    let right = left .before .before .before in
+    let sums = right .before .before .before in
+    let pre = sums .before .before .before .before .pre in
     λ a b o.
-    leaves-right a b o (c .before .before .before .before .before .before .before .before .before .before .before .both-sums .ensures)
-    (c .before .before .before .before .before .before .before .before .before .before .if1 .left)
-    (c .before .before .before .before .before .before .before .before .is-constant .ensures)
-    (c .before .before .before .before .before .before .before .if2 .left)
-    (omega (arith, operand-some (o .first), operand-some (o .second))) (c .before .before .before .before .before .is-constant2 .ensures)
-    (c .before .before .before .before .if3 .taken) (c .before .before .move-down .ensures)
+    leaves-alone (pre .1 .1 .0) a b o (sums .before .both-sums .ensures) (sums .if1 .left) (right .before .is-constant .ensures)
+    (right .if2 .left) (room-of-both o (pre .0) (pre .1 .0)) (left .before .is-constant2 .ensures) (left .if3 .taken)
+    (c .before .before .before .before .before .before .move-down .ensures) (c .before .before .fold-alone .ensures)
 
 append-requires : tie.Need-append-requires
 append-requires c κs = search needs
@@ -95,13 +94,14 @@ same-length-4 c = search needs
 
 returns-4 : tie.Need-returns-4
 returns-4 c =
+    let left = c .before .before .before .before in
+    let right = left .before .before .before in
+    let sums = right .before .before .before in
+    let pre = sums .before .before .before .before .pre in
     λ a b o.
-    leaves-sum-row a b o (c .before .before .before .before .before .before .before .before .before .before .before .both-sums .ensures)
-    (c .before .before .before .before .before .before .before .before .before .before .if1 .left)
-    (c .before .before .before .before .before .before .before .before .is-constant .ensures)
-    (c .before .before .before .before .before .before .before .if2 .left)
-    (omega (arith, operand-some (o .first), operand-some (o .second))) (c .before .before .before .before .before .is-constant2 .ensures)
-    (c .before .before .before .before .if3 .left) (c .before .before .append .ensures)
+    leaves-row (pre .1 .1 .0) a b o (sums .before .both-sums .ensures) (sums .if1 .left) (right .before .is-constant .ensures)
+    (right .if2 .left) (room-of-both o (pre .0) (pre .1 .0)) (left .before .is-constant2 .ensures) (left .if3 .left)
+    (c .before .before .append .ensures)
 
 pub fold-sum-spec : {M : Type 1} → statement M
 fold-sum-spec =
@@ -110,11 +110,7 @@ fold-sum-spec =
     sub-left-root
     sub-right-root
     both-sums-requires
-    elements-requires
-    length-of-requires
-    elements-requires-2
-    length-of-requires-2
-    sum-requires
+    chain-of-both-requires
     put-sum-requires
     add-result
     same-length
@@ -124,6 +120,7 @@ fold-sum-spec =
     returns-2
     is-constant-requires-2
     move-down-requires
+    fold-alone-requires
     same-length-3
     returns-3
     append-requires

@@ -200,10 +200,10 @@ abbrev read-bracket-claims : ℕ → read-bracket-lts.Claims
 read-bracket-claims t = (
   read-sum-below t,
   read-sum.Post,
-  byte-at-reads.Asked,
-  byte-at-reads.Learnt,
   stopped-reads.Asked,
   stopped-reads.Learnt,
+  byte-at-reads.Asked,
+  byte-at-reads.Learnt,
 )
 
 read-bracket-add-read-sum : (t : ℕ) → read-bracket-lts.Need-add-read-sum (read-bracket-claims t) (read-bracket-at t) read-bracket.Post
@@ -212,23 +212,26 @@ read-bracket-add-read-sum t c = omega (arith, (c .before .before .before .pre .1
 read-bracket-read-sum-requires : (t : ℕ) → read-bracket-lts.Need-read-sum-requires (read-bracket-claims t) (read-bracket-at t) read-bracket.Post
 read-bracket-read-sum-requires t c κs = (omega (arith, (c .before .before .before .pre .0), (c .before .before .before .pre .1 .0)), (omega (arith, (c .before .before .before .pre .1 .0)), omega (arith, (c .before .before .before .pre .1 .1))))
 
+read-bracket-stopped-requires : (t : ℕ) → read-bracket-lts.Need-stopped-requires (read-bracket-claims t) (read-bracket-at t) read-bracket.Post
+read-bracket-stopped-requires t c κs = search needs
+
 read-bracket-same-length : (t : ℕ) → read-bracket-lts.Need-same-length (read-bracket-claims t) (read-bracket-at t) read-bracket.Post
 read-bracket-same-length t c = search needs
 
 read-bracket-returns : (t : ℕ) → read-bracket-lts.Need-returns (read-bracket-claims t) (read-bracket-at t) read-bracket.Post
-read-bracket-returns t c = bracket-lost (c .before .before .before .before .before .before .before .before .args .text .now) (c .before .before .before .before .before .before .before .before .args .at) (c .before .before .before .before .before .before .before .before .args .nodes) (c .before .before .before .before .before .before .before .before .args .fault) _ _ _ (c .before .before .before .before .read-sum .ensures) (not-true _ (c .if1 .taken))
+read-bracket-returns t c = bracket-lost (c .before .before .before .before .before .before .before .before .before .args .text .now) (c .before .before .before .before .before .before .before .before .before .args .at) (c .before .before .before .before .before .before .before .before .before .args .nodes) (c .before .before .before .before .before .before .before .before .before .args .fault) _ (c .before .before .before .before .before .read-sum .result) _ (c .before .before .before .before .before .read-sum .ensures) (not-true _ (c .before .if1 .taken)) _ (c .stopped .ensures)
 
 read-bracket-byte-at-requires : (t : ℕ) → read-bracket-lts.Need-byte-at-requires (read-bracket-claims t) (read-bracket-at t) read-bracket.Post
 read-bracket-byte-at-requires t c κs = search needs
 
-read-bracket-stopped-requires : (t : ℕ) → read-bracket-lts.Need-stopped-requires (read-bracket-claims t) (read-bracket-at t) read-bracket.Post
-read-bracket-stopped-requires t c κs = search needs
+read-bracket-stopped-requires-2 : (t : ℕ) → read-bracket-lts.Need-stopped-requires-2 (read-bracket-claims t) (read-bracket-at t) read-bracket.Post
+read-bracket-stopped-requires-2 t c κs = search needs
 
 read-bracket-same-length-2 : (t : ℕ) → read-bracket-lts.Need-same-length-2 (read-bracket-claims t) (read-bracket-at t) read-bracket.Post
 read-bracket-same-length-2 t c = search needs
 
 read-bracket-returns-2 : (t : ℕ) → read-bracket-lts.Need-returns-2 (read-bracket-claims t) (read-bracket-at t) read-bracket.Post
-read-bracket-returns-2 t c = bracket-open (c .before .before .before .before .before .before .before .before .before .before .before .args .text .now) (c .before .before .before .before .before .before .before .before .before .before .before .args .at) (c .before .before .before .before .before .before .before .before .before .before .before .args .nodes) (c .before .before .before .before .before .before .before .before .before .before .before .args .fault) _ (c .before .before .before .before .before .before .before .read-sum .result) _ (got (c .before .before .before .before .before .before .before .read-sum .ensures) (not-false _ (c .before .before .before .if1 .left))) (λ e. (c .before .if2 .taken) ((c .before .before .byte-at .ensures) ∙ e)) _ (c .stopped .ensures)
+read-bracket-returns-2 t c = bracket-open (c .before .before .before .before .before .before .before .before .before .before .before .args .text .now) (c .before .before .before .before .before .before .before .before .before .before .before .args .at) (c .before .before .before .before .before .before .before .before .before .before .before .args .nodes) (c .before .before .before .before .before .before .before .before .before .before .before .args .fault) _ (c .before .before .before .before .before .before .before .read-sum .result) _ (got (c .before .before .before .before .before .before .before .read-sum .ensures) (not-false _ (c .before .before .before .if1 .left))) (λ e. (c .before .if2 .taken) ((c .before .before .byte-at .ensures) ∙ e)) _ (c .stopped2 .ensures)
 
 read-bracket-add-t10 : (t : ℕ) → read-bracket-lts.Need-add-t10 (read-bracket-claims t) (read-bracket-at t) read-bracket.Post
 read-bracket-add-t10 t c = omega (arith, (c .before .before .before .before .before .before .before .before .before .before .good .0 .0), got (c .before .before .before .before .before .before .read-sum .ensures) (not-false _ (c .before .before .if1 .left)) .inside)
@@ -541,19 +544,20 @@ pub +read-atom+read-bracket+read-factor+read-power+read-product+read-sum-spec :
     (λ t. read-bracket-lts.spec (
       read-sum-below t,
       read-sum.Post,
-      byte-at-reads.Asked,
-      byte-at-reads.Learnt,
       stopped-reads.Asked,
       stopped-reads.Learnt,
+      byte-at-reads.Asked,
+      byte-at-reads.Learnt,
     )
     (read-bracket-at t)
     read-bracket.Post
     (read-bracket-add-read-sum t)
     (read-bracket-read-sum-requires t)
+    (read-bracket-stopped-requires t)
     (read-bracket-same-length t)
     (read-bracket-returns t)
     (read-bracket-byte-at-requires t)
-    (read-bracket-stopped-requires t)
+    (read-bracket-stopped-requires-2 t)
     (read-bracket-same-length-2 t)
     (read-bracket-returns-2 t)
     (read-bracket-add-t10 t)

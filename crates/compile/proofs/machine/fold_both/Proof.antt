@@ -1,14 +1,19 @@
 -- `fold_both` picks the operator by its kind.
 use borrow.Author.Tests.{ne-eqb}
+use Rattle.fold_sums.specs.ByKind.{plus, less}
 use borrow.Author.Needs.{needs}
 use Rattle.compile.proofs.machine.fold_both.Statement.{statement}
 use Rattle.compile.proofs.machine.fold_both.Tie as tie
 
 fold-sum-requires : tie.Need-fold-sum-requires
-fold-sum-requires c κs = search needs
+fold-sum-requires c κs =
+    let pre = c .before .before .before .pre in
+    (pre .0, (pre .1 .0, (plus, pre .1 .1)))
 
-fold-difference-requires : tie.Need-fold-difference-requires
-fold-difference-requires c κs = search needs
+fold-sum-requires-2 : tie.Need-fold-sum-requires-2
+fold-sum-requires-2 c κs =
+    let pre = c .before .before .before .pre in
+    (pre .0, (pre .1 .0, (less, pre .1 .1)))
 
 fold-product-requires : tie.Need-fold-product-requires
 fold-product-requires c κs = search needs
@@ -26,7 +31,7 @@ same-length-2 : tie.Need-same-length-2
 same-length-2 c = search needs
 
 returns-2 : tie.Need-returns-2
-returns-2 c = rw (c .before .before .before .before .match .keys2) (c .before .before .fold-difference .ensures)
+returns-2 c = rw (c .before .before .before .before .match .keys2) (c .before .before .fold-sum2 .ensures)
 
 same-length-3 : tie.Need-same-length-3
 same-length-3 c = search needs
@@ -51,7 +56,7 @@ fold-both-spec =
     tie.close
     (tie.spec
     fold-sum-requires
-    fold-difference-requires
+    fold-sum-requires-2
     fold-product-requires
     fold-raise-requires
     same-length

@@ -1,0 +1,2 @@
+-- Sum and difference as one operator.
+pub mod ByKind
