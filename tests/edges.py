@@ -7,10 +7,10 @@ a shift begins one index later, and the elements are the repeated differences of
 is evaluated as it stands. The probe is a difference of whole numbers. A formula is read by Earley's method: the grammar
 is a list of rules, and each place of the text has the set of the rules that can be under way there. Every refusal that
 applies is worked out, and the least one counts. A text that can't be printed or is long has a name in the notation of
-the program's tables, {33:(} for 33 brackets and <10> for the byte 10. A plan is held to document 01's table line by
+the program's input, {33:(} for 33 brackets and <10> for the byte 10. A plan is held to document 01's table line by
 line. Its value at a point is the root's, taken down the rows, where a chain has its value at that index; no chain is
 shifted step by step. After a filling, element j of a chain is the value that the chain from j on has at the number of
-points written. A plan's name is the line of the program's table, made from the rows. A formula is folded as a tree by
+points written. A plan's name is the line of the program's input, made from the rows. A formula is folded as a tree by
 document 01's rules: sum chains again value by value, product chains element by element. The values of a compiled plan
 are what the formula's nodes give at each x, whatever it folds to."""
 import re
@@ -291,7 +291,7 @@ PLAN_WORDS = 2561
 ROW_WORDS = 20
 ROWS = 128
 UNWRITTEN = 999  # stands in every word of a table before it is lent
-BUDGET = 999  # where a line of the program's tables gives none
+BUDGET = 999  # where a line of the program's input gives none
 
 
 def unused(word, rows, r):
@@ -408,7 +408,7 @@ def shown_row(row):
 
 
 def runs(parts, least):
-    """The parts as text, a run of so many or more in the notation of the program's tables."""
+    """The parts as text, a run of so many or more in the notation of the program's input."""
     return "".join(f"{{{count}:{part}}}" if count >= least else part * count
                    for part, count in ((part, len(list(group))) for part, group in groupby(parts)))
 
@@ -418,7 +418,7 @@ def listed(words):
     return text.removesuffix(",")
 
 
-# The two rows that begin many of the plans; the program's tables write p for them.
+# The two rows that begin many of the plans; the program's input writes p for them.
 PAIR_ROWS = [[0, 0, 0, 3], [1, 1, 0, 5, 2]]
 
 
@@ -427,7 +427,7 @@ def fills_text(fills):
 
 
 def plan_text(rows, fills, put, lent):
-    """The plan and its fillings in the notation of the program's tables."""
+    """The plan and its fillings in the notation of the program's input."""
     pair = rows[:2] == PAIR_ROWS
     text = "" if lent == PLAN_WORDS else f"#{lent} "
     text += "p " * pair + runs([listed(row) + " " for row in rows[2 * pair:]], 60)
@@ -622,7 +622,7 @@ def written_out(name):
 
 
 def compiling_text(name, grid, fills, lent):
-    """The formula and its fillings in the notation of the program's tables."""
+    """The formula and its fillings in the notation of the program's input."""
     text = "" if lent == PLAN_WORDS else f"#{lent} "
     text += "=" if grid == (0, 1) else "g{},{}:".format(*grid)
     return f"{text}{name} {fills_text(fills)}".rstrip()
@@ -631,7 +631,7 @@ def compiling_text(name, grid, fills, lent):
 def compiling(name, *fills, grid=(0, 1), lent=PLAN_WORDS, answer=(0, 0), rows=None, count=None, cost=None, values=None,
               after=None):
     """A formula compiled into the first words of 3,000, which hold other words before, and fillings. Its name is the
-    text in the notation of the program's tables. What is known otherwise must agree: the number and place, the rows or
+    text in the notation of the program's input. What is known otherwise must agree: the number and place, the rows or
     how many they are, the cost, the values written first and the first row afterwards."""
     text = written_out(name)
     name = compiling_text(name, grid, fills, lent)

@@ -1,70 +1,210 @@
-// Trim, shift and value, with lengths 16 and 17 and words past the length that are not to be read.
-// Sums and differences are in `sums`, products in `products`.
-use crate::table;
-use crate::table::Kind;
+// Chains worked out by the library's calls from postfix text, on a stack of three; and lists of coefficients of any count.
+// How the words of a list are read is in `words`.
+use crate::print;
+use crate::text;
+use crate::words;
+use chain::ChainAnswer;
 
-fn trims() {
-    table::each(
-        Kind::Chain,
-        b"\
-trim 0,1,6,6|0,1,6,6 T
-trim trailing zeros|5,0,7,0,0 T
-trim 0 at the length, other words past it|1,2,0 T
-trim all zeros|0,0,0,0 T
-trim length 0|5 T
-trim length 0, zero|0 T
-trim largest words|-1,-1 T
-trim length 16|m16 T
-trim length 16, all zeros|0,0,0,0,0,0,0,0,0,0,0,0,0,0,0,0,0 T
-trim length 16, zeros before 3|0,0,0,0,0,0,0,0,0,0,0,0,0,0,0,0,3 T
-trim length 16, zeros after 3|3,0,0,0,0,0,0,0,0,0,0,0,0,0,0,0,0 T
-trim length 17|1,1,1,1,1,1,1,1,1,1,1,1,1,1,1,1,1,1 T
-trim length 17, all zeros|0,0,0,0,0,0,0,0,0,0,0,0,0,0,0,0,0,0 T
-trim length 1 of 17 words|m1 T
-trim length 17 of 17 words|m17 T
-trim length 2^64-1|m18446744073709551615 T
-",
-    );
+// 17 words with no pattern each: m7 is the chain of length 7 that M begins with, o7 the same of O.
+const M: [u64; 17] = [
+    8655628691030458795,
+    5256094207684167668,
+    4180856497841727578,
+    107979628678664349,
+    15756039724148852180,
+    13115661919474116790,
+    4387717867488172214,
+    4103110843326994392,
+    5471255634648745445,
+    15032457632618298465,
+    12298722244620105259,
+    17555418861524147830,
+    11106931077284914532,
+    409181037405618471,
+    4064752486773932908,
+    11119541076410096229,
+    375820720504423710,
+];
+
+const O: [u64; 17] = [
+    2840057397584532836,
+    11179614465513572718,
+    11639083774110332977,
+    8572736460732607874,
+    11043835257696556159,
+    12978061762861636387,
+    18177973469798822320,
+    14437370032020131157,
+    6673710908173084901,
+    7752820852661137699,
+    1585321266115439055,
+    9118092803556517201,
+    9532229974515371666,
+    3177742345388760290,
+    10378958388058473350,
+    10676154810568506706,
+    5216717000746992735,
+];
+
+// Three chains, each as a call answers it. One that no call has answered has the number and place of an accepted call.
+struct Stack {
+    top: ChainAnswer,
+    second: ChainAnswer,
+    third: ChainAnswer,
 }
 
-fn shifts() {
-    table::each(
-        Kind::Chain,
-        b"\
-shift i^3|0,1,6,6 E
-shift i^3 three times|0,1,6,6 E E E
-shift 5|5 E
-shift 0|0 E
-shift meets old values|0,0,0,1 E
-shift trailing zeros|1,2,0,0 E
-shift wraps to 0|-1,1 E
-shift of halves|9223372036854775808,9223372036854775808,9223372036854775808 E
-shift length 16|m16 E
-shift length 17|0,0,0,0,0,0,0,0,0,0,0,0,0,0,0,0,0,0 E
-shift length 4 of 17 words|m4 E
-shift length 2^64-1|m18446744073709551615 E
-",
-    );
+// The stack with a chain in the place of the uppermost ones that were taken: none, one or two.
+fn placed(s: Stack, top: ChainAnswer, taken: usize) -> Stack {
+    let first = s.top;
+    let second = s.second;
+    let third = s.third;
+    match taken {
+        0 => Stack {
+            top,
+            second: first,
+            third: second,
+        },
+        1 => Stack { top, second, third },
+        _ => Stack {
+            top,
+            second: third,
+            third,
+        },
+    }
 }
 
-fn values() {
-    table::each(
-        Kind::Value,
-        b"\
-value 5|5
-value 0|0
-value of a chain|7,1,6,6
-value largest|-1,1
-value of trailing zeros|3,0,0
-value length 16|m16
-value length 17|8,8,8,8,8,8,8,8,8,8,8,8,8,8,8,8,8,8
-value length 2^64-1|m18446744073709551615
-",
-    );
+fn shifted(f: ChainAnswer) -> ChainAnswer {
+    let elements = f.elements;
+    arithmetic::shift(elements, f.length)
 }
 
-pub fn run() {
-    trims();
-    shifts();
-    values();
+fn present(f: ChainAnswer) -> chain::ValueAnswer {
+    let elements = f.elements;
+    arithmetic::value(elements, f.length)
+}
+
+fn of_coefficients(list: &[u64], count: usize) -> ChainAnswer {
+    let held = words::at_most(count, list.len());
+    coefficients::from_coefficients(&list[0..held])
+}
+
+// The length of a chain is one less than the words listed, so over 16 from 18 words on.
+fn operand(token: &[u8]) -> ChainAnswer {
+    let list = words::list(token);
+    let mut elements = list.words;
+    let mut length = std::num::wrapping_sub_usize(list.count, 1);
+    match text::byte_at(token, 0) {
+        b'm' => {
+            elements = M;
+            length = text::number(token, 0) as usize;
+        }
+        b'o' => {
+            elements = O;
+            length = text::number(token, 0) as usize;
+        }
+        _ => {}
+    }
+    ChainAnswer {
+        number: 0,
+        place: 0,
+        length,
+        elements,
+    }
+}
+
+// The stack after a token. A list of words pushes a chain, and so does m or o with a length. An operator is a single byte: + - * take the
+// two uppermost chains; E shifts the top, T trims it, C takes its words as coefficients and D pushes it again.
+fn step(s: Stack, token: &[u8]) -> Stack {
+    if token.len() != 1 {
+        return placed(s, operand(token), 0);
+    }
+    let top = s.top;
+    let second = s.second;
+    let f = second.elements;
+    let k = second.length;
+    let g = top.elements;
+    let l = top.length;
+    match text::byte_at(token, 0) {
+        b'+' => placed(s, arithmetic::sum(f, k, g, l), 2),
+        b'-' => placed(s, arithmetic::difference(f, k, g, l), 2),
+        b'*' => placed(s, arithmetic::product(f, k, g, l), 2),
+        b'E' => placed(s, shifted(top), 1),
+        b'T' => placed(s, arithmetic::trim(g, l), 1),
+        b'C' => placed(
+            s,
+            of_coefficients(&g, std::num::wrapping_add_usize(l, 1)),
+            1,
+        ),
+        b'D' => placed(s, top, 0),
+        _ => placed(s, operand(token), 0),
+    }
+}
+
+// The stack's top after all tokens.
+pub fn work(tokens: &[u8]) -> ChainAnswer {
+    let elements = [0; 17];
+    let zero = ChainAnswer {
+        number: 0,
+        place: 0,
+        length: 0,
+        elements,
+    };
+    let mut s = Stack {
+        top: zero,
+        second: zero,
+        third: zero,
+    };
+    let mut at = 0;
+    while at < tokens.len() {
+        let blank = text::cut(tokens, at, b' ');
+        let next = step(s, text::part(tokens, at, blank.end));
+        s = next;
+        at = blank.after;
+    }
+    s.top
+}
+
+// number place length elements, and whether the words past the length are clean
+pub fn print(name: &[u8], f: ChainAnswer) {
+    let list = f.elements;
+    let count = words::at_most(f.length, 16) + 1;
+    print::text(name);
+    print::answer(print::TAB, f.number, f.place);
+    print::number(f.length as u64);
+    print::label(print::BLANK);
+    print::list(&list, count);
+    print::clean(&list, count, 17);
+    print::label(print::LINE);
+}
+
+// number place word
+pub fn value(name: &[u8], body: &[u8]) {
+    let answer = present(work(body));
+    print::text(name);
+    print::answer(print::TAB, answer.number, answer.place);
+    print::number(answer.word);
+    print::label(print::LINE);
+}
+
+// value,value,.. at the first 20 indices: the present value and a shift in turn
+pub fn sequence(name: &[u8], body: &[u8]) {
+    print::text(name);
+    print::label(print::TAB);
+    let mut f = work(body);
+    let mut i = 0;
+    while i < 20 {
+        let present = present(f);
+        print::element(present.word, i);
+        let next = shifted(f);
+        f = next;
+        i += 1;
+    }
+    print::label(print::LINE);
+}
+
+// The chain of a list of coefficients, which may be empty or have more than 17 words.
+pub fn list(name: &[u8], body: &[u8]) {
+    let mut words = [0u64; 64];
+    let count = words::put_list(body, 0, &mut words, 0);
+    print(name, of_coefficients(&words, count));
 }

@@ -1,42 +1,40 @@
-// Formulas of every kind of row on 36 grids: a line for each formula and grid, with the plan's rows, cost and checksum, and 12 values.
+// A formula on 36 grids: a line for each grid, with the plan's rows, cost and checksum, and 12 values.
 // The values are filled in one call, and in several uneven ones from a plan that is compiled again; the line says if they differ.
+use crate::plans;
 use crate::print;
-use crate::runs;
-use crate::table;
-use crate::table::Kind;
+use crate::words;
 
 const MOST: u64 = 18446744073709551615;
+
 // Every start with every step.
 const CORNERS: [u64; 6] = [0, 1, 5, 4294967296, 9223372036854775808, MOST];
+
+// How many values are filled.
+const VALUES: usize = 12;
 
 // Fills the words of a table from one place up to another, if there are such words.
 fn fill_part(plan: &mut [u64], table: &mut [u64], from: usize, to: usize, budget: u64) {
     if from <= to {
         if to <= table.len() {
-            filling::fill(plan, &mut table[from..to], budget);
+            plans::filled(plan, &mut table[from..to], budget);
         }
     }
 }
 
 // A table of 12 words: one point, three that the budget pays for, none, five and three.
 fn fill_parts(plan: &mut [u64], table: &mut [u64], cost: u64) {
+    let for_three = std::num::wrapping_add_u64(word::times(4, cost), 3);
     fill_part(plan, table, 0, 1, MOST);
-    fill_part(
-        plan,
-        table,
-        1,
-        12,
-        std::num::wrapping_add_u64(word::times(4, cost), 3),
-    );
-    fill_part(plan, table, 4, 12, cost);
+    fill_part(plan, table, 1, VALUES, for_three);
+    fill_part(plan, table, 4, VALUES, cost);
     fill_part(plan, table, 4, 9, MOST);
-    fill_part(plan, table, 9, 12, MOST);
+    fill_part(plan, table, 9, VALUES, MOST);
 }
 
 fn is_same(once: &[u64], parts: &[u64]) -> bool {
     let mut i = 0;
     while i < once.len() {
-        if once[i] != print::word_at(parts, i) {
+        if once[i] != words::word_at(parts, i) {
             return false;
         }
         i += 1;
@@ -44,58 +42,40 @@ fn is_same(once: &[u64], parts: &[u64]) -> bool {
     true
 }
 
-fn print_head(formula: &[u8], start: u64, step: u64) {
-    print::text(b"grid ");
-    print::number(start);
-    print::text(b",");
-    print::number(step);
-    print::text(b" ");
-    print::text(formula);
-}
-
 fn print_plan(answer: compile::CompileAnswer, plan: &[u64], cost: u64) {
-    print::answer(b"\t", answer.number, answer.place);
-    print::text(b"rows ");
-    print::number(print::word_at(plan, 0));
-    print::text(b" cost ");
+    print::answer(print::TAB, answer.number, answer.place);
+    print::label(print::ROWS);
+    print::number(words::word_at(plan, 0));
+    print::label(print::BLANK);
+    print::label(print::COST);
     print::number(cost);
-    print::text(b" sum ");
-    print::number(runs::checksum(plan));
-    print::text(b" values ");
-}
-
-// Compiles, prints the plan and fills the table in one call.
-fn fill_once(formula: &[u8], start: u64, step: u64, plan: &mut [u64], table: &mut [u64]) {
-    let answer = compile::compile(formula, start, step, plan);
-    let cost = filling::cost(plan);
-    print_plan(answer, plan, cost.cost);
-    filling::fill(plan, table, MOST);
-}
-
-// Compiles again and fills the table in several calls.
-fn fill_again(formula: &[u8], start: u64, step: u64, plan: &mut [u64], table: &mut [u64]) {
-    compile::compile(formula, start, step, plan);
-    let cost = filling::cost(plan);
-    fill_parts(plan, table, cost.cost);
-}
-
-fn print_values(once: &[u64], parts: &[u64]) {
-    runs::print_words(once, once.len());
-    if is_same(once, parts) {
-        print::text(b"\n");
-    } else {
-        print::text(b" differs\n");
-    }
+    print::label(print::SUM);
+    print::number(words::checksum(plan));
+    print::label(print::BLANK);
+    print::label(print::VALUES);
 }
 
 fn on_grid(formula: &[u8], start: u64, step: u64) {
-    let mut plan = [print::UNWRITTEN; 2561];
-    let mut once = [print::UNWRITTEN; 12];
-    let mut parts = [print::UNWRITTEN; 12];
-    print_head(formula, start, step);
-    fill_once(formula, start, step, &mut plan, &mut once);
-    fill_again(formula, start, step, &mut plan, &mut parts);
-    print_values(&once, &parts);
+    let mut plan = [words::UNREAD; 2561];
+    let mut once = [words::UNREAD; VALUES];
+    let mut parts = [words::UNREAD; VALUES];
+    print::label(print::GRID);
+    print::number(start);
+    print::label(print::COMMA);
+    print::number(step);
+    print::label(print::BLANK);
+    print::text(formula);
+    let answer = plans::compiled(formula, start, step, &mut plan);
+    let cost = plans::cost(&plan);
+    print_plan(answer, &plan, cost.cost);
+    plans::filled(&mut plan, &mut once, MOST);
+    print::list(&once, VALUES);
+    plans::compiled(formula, start, step, &mut plan);
+    fill_parts(&mut plan, &mut parts, cost.cost);
+    if !is_same(&once, &parts) {
+        print::label(print::DIFFERS);
+    }
+    print::label(print::LINE);
 }
 
 pub fn each(formula: &[u8]) {
@@ -104,26 +84,4 @@ pub fn each(formula: &[u8]) {
         on_grid(formula, CORNERS[i / 6], CORNERS[i % 6]);
         i += 1;
     }
-}
-
-pub fn run() {
-    table::each(
-        Kind::Grids,
-        b"\
-x*x-x^2+7
-x
-3*x+1
--x^2
-x^16
-x^17
-3^(x)
-5*7^(x^2+x)
-3^(3^(x))
-x+3^(x)
-x*3^(x)-x^9*x^8
-0-(x-3^(x))^3
-(2-3^(x^3+x))^2*x
-(-3)^(x^17)+1*x
-",
-    );
 }

@@ -1,72 +1,75 @@
-// The notation in which a table writes a formula's text, and the bytes that it stands for.
+// The notation in which a line writes repeats, and the bytes that it stands for.
 // {3:+x} stands for +x three times and <10> for the byte 10; every other byte stands for itself.
 use crate::text;
-use crate::text::Ends;
+use crate::words;
 ghost use Prim.Native.Nat.{_≤_, _<_};
 ghost use lib.ListN.{length};
 
-// Puts a byte at the end of what is written so far, if there is room, and answers the new end.
-fn put(out: &mut [u8], end: usize, byte: u8) -> usize {
-    if end < out.len() {
-        out[end] = byte;
-        return end + 1;
-    }
-    end
+// A token: how many bytes it writes in all; the part of the notation that it repeats, by its place and size, or the byte that it writes
+// where the size is 0; and where the next token begins.
+struct Piece {
+    total: usize,
+    from: usize,
+    size: usize,
+    byte: u8,
+    after: usize,
 }
 
-fn copied(unit: &[u8], out: &mut [u8], end: usize) -> usize {
-    let mut last = end;
-    let mut i = 0;
-    while i < unit.len() {
-        let byte = unit[i];
-        last = put(out, last, byte);
-        i += 1;
-    }
-    last
-}
-
-fn repeated(times: u64, unit: &[u8], out: &mut [u8], end: usize) -> usize {
-    let mut last = end;
-    let mut i = 0;
-    while i < times {
-        last = copied(unit, out, last);
-        i += 1;
-    }
-    last
-}
-
-// Writes what a token stands for; the token comes without its closing mark.
-fn written(token: &[u8], out: &mut [u8], end: usize) -> usize {
-    if token.len() == 0 {
-        return end;
-    }
-    let colon = text::cut(token, 0, b':');
-    let number = text::number(text::part(token, 0, colon.end));
-    match token[0] {
-        b'{' => repeated(
-            number,
-            text::part(token, colon.after, token.len()),
-            out,
-            end,
-        ),
-        b'<' => put(out, end, (number % 256) as u8),
-        byte => put(out, end, byte),
-    }
-}
-
-// Cuts off the token that begins at `at`.
-fn token(notation: &[u8], at: usize) -> Ends
+// The token that begins at `at`.
+fn token(notation: &[u8], at: usize) -> Piece
     requires { ⌜ at < length (now notation) ⌝ }
     ensures { λ r. ⌜ (at < r .after) × (r .after ≤ length (now (notation .entry))) ⌝ }
 {
     match notation[at] {
-        b'{' => text::cut(notation, at, b'}'),
-        b'<' => text::cut(notation, at, b'>'),
-        _ => Ends {
-            end: at + 1,
+        b'{' => {
+            let colon = text::cut(notation, at, b':');
+            let end = text::cut(notation, at, b'}');
+            let times = text::number(text::part(notation, at, colon.end), 0);
+            let size = std::num::wrapping_sub_usize(end.end, colon.after);
+            Piece {
+                total: word::times(times, size as u64) as usize,
+                from: colon.after,
+                size,
+                byte: 0,
+                after: end.after,
+            }
+        }
+        b'<' => {
+            let end = text::cut(notation, at, b'>');
+            let byte = text::number(text::part(notation, at, end.end), 0) % 256;
+            Piece {
+                total: 1,
+                from: at,
+                size: 0,
+                byte: byte as u8,
+                after: end.after,
+            }
+        }
+        _ => Piece {
+            total: 1,
+            from: at,
+            size: 1,
+            byte: 0,
             after: at + 1,
         },
     }
+}
+
+// Writes a token behind what is written so far, as far as there is room, and answers the new end.
+fn written(notation: &[u8], token: Piece, out: &mut [u8], end: usize) -> usize {
+    let size = token.size;
+    let stop = words::at_most(std::num::wrapping_add_usize(end, token.total), out.len());
+    let mut last = end;
+    while last < stop {
+        let mut byte = token.byte;
+        if 0 < size {
+            let place = std::num::wrapping_add_usize(token.from, (last - end) % size);
+            byte = text::byte_at(notation, place);
+        }
+        out[last] = byte;
+        last += 1;
+    }
+    last
 }
 
 // Writes the bytes that the notation stands for, as far as there is room, and answers how many.
@@ -75,7 +78,7 @@ pub fn expand(notation: &[u8], out: &mut [u8]) -> usize {
     let mut at = 0;
     while at < notation.len() {
         let next = token(notation, at);
-        end = written(text::part(notation, at, next.end), out, end);
+        end = written(notation, next, out, end);
         at = next.after;
     }
     end

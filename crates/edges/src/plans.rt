@@ -1,280 +1,175 @@
-// Soundness and cost of plans: both sides of every line of the table of kinds, of the number of rows and of the words lent.
-// A line is a plan and its fillings, as `entries` and `runs` write them. Fillings for their own sake are in `fills`.
-use crate::table;
-use crate::table::Kind;
+// A plan, its soundness, cost and fillings, and formulas compiled to it. The tokens of a line are told at `step`.
+// The calls of the library that `grids` makes as well stand here once. Formulas that are only read are in `formulas`.
+use crate::print;
+use crate::text;
+use crate::words;
+ghost use Prim.Native.Nat.{_≤_};
+ghost use lib.ListN.{length};
 
-// Word 0, and rows that it does not count. Then the number of words lent, and refusals where nothing could be written.
-fn counts() {
-    table::each(
-        Kind::Plan,
-        b"\
-t2
-@0,1 t2
-@0,128 t2
-@0,129 t2
-@0,256 t2
-@0,257 t2
-@0,4294967296 t2
-@0,4294967297 t2
-@0,9223372036854775809 t2
-@0,-1 t2
-0,0,0,7 t2
-0,0,0,7 @0,0 t2
-0,0,0,7 @0,2 t2
-0,0,0,7 0,0,0,8 @0,1 t2
-{127:0,0,0,7 }t2
-{128:0,0,0,7 }t2
-{128:0,0,0,7 }@0,127 t2
-{128:0,0,0,7 }@0,129 t2
-0,0,0,7 @21,1 t2
-0,0,0,7 @22,1 t2
-0,0,0,7 @23,1 t2
-0,0,0,7 @24,1 t2
-0,0,0,7 @40,1 t2
-0,0,0,7 @41,1 t2
-0,0,0,7 @2540,1 t2
-0,0,0,7 @2541,1 t2
-0,0,0,7 @2560,1 t2
-0,0,0,7 @2560,-1 t2
-{127:0,0,0,7 }@2541,1 t2
-{127:0,0,0,7 }@2560,1 t2
-#0 0,0,0,7 t2
-#1 0,0,0,7 t2
-#21 0,0,0,7 t2
-#2560 0,0,0,7 t2
-#2560 0,0,0,7 t0
-#2560 0,0,0,7 t2,0
-#2560 t2
-#2560 9 t2
-0,0,0,7 t0
-0,0,0,7 t2,0
-t0
-9 t0
-9 t2,0
-9 t4096,-1
-#2562 0,0,0,7 @2561,1 t2
-#3000 0,0,0,7 t2
-#3000 0,0,0,7 @2561,{439:9,} t2
-#3000 1,3,0,0,1,6,6 @2561,{439:9,} t10,15
-#3000 {127:0,0,0,7 }2,16,0,{17:3,} @2561,{439:9,} t2
-#3000 0,0,0,7 @2560,1 @2561,{439:9,} t2
-#3000 9 @2561,{439:9,} t0
-#2560 1,1,0,5,2 t2 #2561 t2
-",
-    );
+const PLAN_WORDS: usize = 2561;
+
+pub fn cost(plan: &[u64]) -> plan::CostAnswer {
+    filling::cost(plan)
 }
 
-// Row 0, which can have no operands: constants, operators, and both kinds of chains.
-fn first_rows() {
-    table::each(
-        Kind::Plan,
-        b"\
-0 t2
-0,0,0,-1 t2
-0,1,0,7 t2
-0,-1,0,7 t2
-0,0,1,7 t2
-0,0,-1,7 t2
-0,0,0,7,1 t2
-0,0,0,0,1 t2
-0,0,0,7,{15:0,}1 t2
-3 t2
-4 t2
-5 t2
-6 t2
-7,0,2 t2
-8 t2
-9 t2
--1 t2
-1 t2
-1,0,0,5 t2
-1,1,0,5,2 t2
-1,1,0,5,2,1 t2
-1,2,0,5,2,1 t2
-1,1,1,5,2 t2
-1,1,-1,5,2 t2
-1,17,0,5,2 t2
-1,257,0,5,2 t2
-1,4294967297,0,5,2 t2
-1,-1,0,5,2 t2
-1,1,0,5,2,{14:0,}1 t2
-1,14,0,{15:5,}0,1 t2
-1,15,0,{16:5,} t2
-1,15,0,{16:5,}1 t2
-1,16,0,{16:5,} t2
-1,16,0,{16:5,}-1 t2
-1,17,0,{17:5,} t2
-2 t2
-2,0,0,5 t2
-2,1,0,5,2 t2
-2,1,0,5,2,1 t2
-2,2,0,5,2,1 t2
-2,1,1,5,2 t2
-2,1,-1,5,2 t2
-2,17,0,5,2 t2
-2,257,0,5,2 t2
-2,4294967297,0,5,2 t2
-2,-1,0,5,2 t2
-2,1,0,5,2,{14:0,}1 t2
-2,14,0,{15:5,}0,1 t2
-2,15,0,{16:5,} t2
-2,15,0,{16:5,}1 t2
-2,16,0,{16:5,} t2
-2,16,0,{16:5,}-1 t2
-2,17,0,{17:5,} t2
-",
-    );
+pub fn filled(plan: &mut [u64], table: &mut [u64], budget: u64) -> plan::FillAnswer {
+    filling::fill(plan, table, budget)
 }
 
-// A row 2: each kind and numbers that are none, elements of operators, operands of + - *, of minus, of powers with their n, of raises.
-fn third_rows() {
-    table::each(
-        Kind::Plan,
-        b"\
-p 0,0,0,4 t2
-p 1,1,0,4,5 t2
-p 2,1,0,4,5 t2
-p 3,0,1 t2
-p 4,0,1 t2
-p 5,0,1 t2
-p 6,1 t2
-p 7,1,2 t2
-p 8,0,1 t2
-p 9 t2
-p 9,0,1 t2
-p 10,0,1 t2
-p 256,0,0,4 t2
-p 257,1,0,4,5 t2
-p 4294967299,0,1 t2
-p 9223372036854775811,0,1 t2
-p -1 t2
-p -1,0,1 t2
-p 3,0,1,1 t2
-p 4,0,1,1 t2
-p 5,0,1,1 t2
-p 6,1,0,1 t2
-p 7,1,2,1 t2
-p 8,0,1,1 t2
-p 3,0,1,{16:0,}1 t2
-p 4,0,1,{16:0,}1 t2
-p 5,0,1,{16:0,}1 t2
-p 6,1,{17:0,}1 t2
-p 7,1,2,{16:0,}1 t2
-p 8,0,1,{16:0,}1 t2
-p 3,0,0 t2
-p 3,1,1 t2
-p 3,1,0 t2
-p 3,2,0 t2
-p 3,3,0 t2
-p 3,-1,0 t2
-p 3,4294967296,0 t2
-p 3,0,2 t2
-p 3,0,3 t2
-p 3,0,-1 t2
-p 3,0,4294967296 t2
-p 4,0,0 t2
-p 4,1,1 t2
-p 4,1,0 t2
-p 4,2,0 t2
-p 4,3,0 t2
-p 4,-1,0 t2
-p 4,4294967296,0 t2
-p 4,0,2 t2
-p 4,0,3 t2
-p 4,0,-1 t2
-p 4,0,4294967296 t2
-p 5,0,0 t2
-p 5,1,1 t2
-p 5,1,0 t2
-p 5,2,0 t2
-p 5,3,0 t2
-p 5,-1,0 t2
-p 5,4294967296,0 t2
-p 5,0,2 t2
-p 5,0,3 t2
-p 5,0,-1 t2
-p 5,0,4294967296 t2
-p 6 t2
-p 6,2 t2
-p 6,3 t2
-p 6,-1 t2
-p 6,4294967296 t2
-p 6,0,1 t2
-p 6,1,1 t2
-p 6,1,-1 t2
-p 7,0,2 t2
-p 7,2,2 t2
-p 7,3,2 t2
-p 7,-1,2 t2
-p 7,4294967296,2 t2
-p 7,1 t2
-p 7,1,1 t2
-p 7,1,3 t2
-p 7,1,63 t2
-p 7,1,64 t2
-p 7,1,65 t2
-p 7,1,258 t2
-p 7,1,4294967298 t2
-p 7,1,-1 t2
-p 8 t2
-p 8,1,0 t2
-p 8,1,1 t2
-p 8,2,1 t2
-p 8,3,1 t2
-p 8,-1,1 t2
-p 8,4294967296,1 t2
-p 8,0,2 t2
-p 8,0,3 t2
-p 8,0,-1 t2
-p 8,0,4294967296 t2
-",
-    );
+pub fn compiled(formula: &[u8], start: u64, step: u64, plan: &mut [u64]) -> compile::CompileAnswer {
+    compile::compile(formula, start, step, plan)
 }
 
-// Bases of raises: constants, the exponent being the base, and rows of other kinds. Then the operands of row 127.
-fn bases() {
-    table::each(
-        Kind::Plan,
-        b"\
-0 8 t2
-0,0,0,1 8 t2
-0,0,0,2 8 t2
-0,0,0,3 8 t2
-0,0,0,9223372036854775808 8 t2
-0,0,0,9223372036854775809 8 t2
-0,0,0,-2 8 t2
-0,0,0,-1 8 t2
-p 1,1,0,3,2 8,2 t2
-p 1,1,0,3,0 8,2 t2
-p 2,1,0,3,5 8,2 t2
-p 2,1,0,3,1 8,2 t2
-p 0,0,0,4 3,0,2 8,3 t2
-p 0,0,0,4 4,0,2 8,3 t2
-p 5,0,0 8,2 t2
-p 6 8,2 t2
-p 7,0,2 8,2 t2
-p 8 8,2 t2
-{127:0,0,0,3 }3,126,125 t2
-{127:0,0,0,3 }3,127,0 t2
-{127:0,0,0,3 }3,128,0 t2
-{127:0,0,0,3 }3,0,126 t2
-{127:0,0,0,3 }3,0,127 t2
-{127:0,0,0,3 }3,0,128 t2
-{127:0,0,0,3 }6,126 t2
-{127:0,0,0,3 }6,127 t2
-{127:0,0,0,3 }7,126,2 t2
-{127:0,0,0,3 }7,127,2 t2
-{127:0,0,0,3 }8,126,126 t2
-{127:0,0,0,3 }8,127,0 t2
-{127:0,0,0,3 }8,128,0 t2
-{127:0,0,0,3 }8,0,127 t2
-",
-    );
+// The next row.
+fn add(token: &[u8], plan: &mut [u64]) {
+    let r = words::word_at(plan, 0);
+    let start = std::num::wrapping_add_u64(word::times(20, r), 1);
+    words::put_list(token, r, plan, start as usize);
+    words::put(plan, 0, std::num::wrapping_add_u64(r, 1));
 }
 
-pub fn run() {
-    counts();
-    first_rows();
-    third_rows();
-    bases();
+// Words at a place of their own.
+fn plant(token: &[u8], plan: &mut [u64]) {
+    let start = text::number(text::before(token, b','), 0) as usize;
+    words::put_list(text::after(token, b','), 0, plan, start);
+}
+
+// The number of rows, and so many of them. A row's words that are 0 up to its end are left out, but for its kind.
+fn print_rows(plan: &[u64], most: usize)
+    requires { ⌜ most ≤ 128 ⌝ }
+{
+    let counted = words::word_at(plan, 0);
+    print::label(print::PLAN);
+    print::number(counted);
+    print::label(print::COLON);
+    let words = 20 * words::at_most(counted as usize, most);
+    let mut i = 0;
+    while i < words {
+        let place = i % 20;
+        if place == 0 {
+            print::label(print::BLANK);
+            print::number(words::word_at(plan, 1 + i));
+        } else if !words::is_painted(plan, 1 + i, 21 + i - place, 0) {
+            print::label(print::COMMA);
+            print::number(words::word_at(plan, 1 + i));
+        }
+        i += 1;
+    }
+}
+
+// The words of the table that were written and two more, at most 22; the number of rows and the first 10; and the checksums.
+fn print_lent(table: &[u64], points: usize, plan: &[u64]) {
+    print::label(print::TABLE);
+    print::list(table, words::at_most(points, 20) + 2);
+    print::label(print::SUM);
+    print::number(words::checksum(table));
+    print::label(print::BLANK);
+    print_rows(plan, 10);
+    print::label(print::SUM);
+    print::number(words::checksum(plan));
+}
+
+// Asks everything of the lent words, and answers the points written.
+fn ask(plan: &mut [u64], table: &mut [u64], budget: u64) -> usize {
+    let sound = soundness::sound(plan);
+    let cost = cost(plan);
+    let fill = filled(plan, table, budget);
+    print::label(print::TAB);
+    print::answer(print::SOUND, sound.number, sound.place);
+    print::answer(print::COST, cost.number, cost.place);
+    print::number(cost.cost);
+    print::label(print::BLANK);
+    print::answer(print::FILL, fill.number, fill.place);
+    print::number(fill.points as u64);
+    print::label(print::BLANK);
+    print::number(fill.spent);
+    fill.points
+}
+
+fn fill(token: &[u8], held: usize, plan: &mut [u64], table: &mut [u64])
+    requires { ⌜ held ≤ length (now plan) ⌝ }
+{
+    let list = words::list(token);
+    let asked = list.words;
+    let room = words::at_most(asked[0] as usize, table.len());
+    let points = ask(&mut plan[0..held], &mut table[0..room], asked[1]);
+    print_lent(table, points, plan);
+}
+
+// Of an accepted formula the cost, the rows, whether the words after the rows are clean, and whether those after the plan stayed; of a
+// refused one whether all words stayed.
+fn print_plan(number: u64, plan: &[u64]) {
+    if number != 0 {
+        print::kept(plan, 0);
+        return;
+    }
+    let cost = cost(plan);
+    let count = words::at_most(words::word_at(plan, 0) as usize, 128);
+    print::answer(print::COST, cost.number, cost.place);
+    print::number(cost.cost);
+    print::label(print::BLANK);
+    print_rows(plan, 128);
+    print::clean(plan, 1 + 20 * count, PLAN_WORDS);
+    print::label(print::BLANK);
+    print::kept(plan, PLAN_WORDS);
+}
+
+fn compile_on(formula: &[u8], start: u64, step: u64, held: usize, plan: &mut [u64])
+    requires { ⌜ held ≤ length (now plan) ⌝ }
+{
+    words::paint(plan);
+    let answer = compiled(formula, start, step, &mut plan[0..held]);
+    print::label(print::TAB);
+    print::answer(print::COMPILE, answer.number, answer.place);
+    print_plan(answer.number, plan);
+}
+
+// Does what a token says, and answers how many words of the plan are lent from then on.
+// 1,3,0,0,1,6,6 is the next row: its kind, a, b and elements. The words after them stay 0, and word 0 counts the row. ~1 in it is the
+// number of the row before it. @40,7,8 puts 7 and 8 in the words from 40 on. p begins a plan with the rows 0,0,0,3 and 1,1,0,5,2.
+// #2560 lends 2,560 words; 2,561 are lent where nothing is said. t10,15 asks for soundness and cost and fills a table of 10 words on a
+// budget of 15, which is 999 where it is left out. =x^3 compiles a formula, and g5,2:x^3 does on a grid with start 5 and step 2.
+fn step(token: &[u8], lent: usize, plan: &mut [u64], table: &mut [u64]) -> usize {
+    let held = words::at_most(lent, plan.len());
+    match text::byte_at(token, 0) {
+        b'#' => {
+            return text::number(token, 0) as usize;
+        }
+        b'@' => plant(token, plan),
+        b't' => fill(token, held, plan, table),
+        b'p' => plant(
+            b"0,2,0,0,0,3,0,0,0,0,0,0,0,0,0,0,0,0,0,0,0,0,1,1,0,5,2",
+            plan,
+        ),
+        b'=' => compile_on(text::after(token, b'='), 0, 1, held, plan),
+        b'g' => {
+            let grid = text::before(token, b':');
+            let start = text::number(text::before(grid, b','), 0);
+            let step = text::number(text::after(grid, b','), 0);
+            compile_on(text::after(token, b':'), start, step, held, plan);
+        }
+        _ => add(token, plan),
+    }
+    lent
+}
+
+// The line is the case's name too; its tokens have their repeats written out.
+pub fn run(line: &[u8], tokens: &[u8]) {
+    let mut plan = [0u64; 3000];
+    let mut table = [words::UNREAD; 4096];
+    let mut lent = PLAN_WORDS;
+    let mut at = 0;
+    print::label(print::PLAN);
+    print::text(line);
+    while at < tokens.len() {
+        let blank = text::cut(tokens, at, b' ');
+        lent = step(
+            text::part(tokens, at, blank.end),
+            lent,
+            &mut plan,
+            &mut table,
+        );
+        at = blank.after;
+    }
+    print::label(print::LINE);
 }

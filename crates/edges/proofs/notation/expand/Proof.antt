@@ -18,9 +18,6 @@ loop-holds c = search needs
 token-requires : tie.Need-token-requires Inv-loop μ-loop
 token-requires c κs = search needs
 
-part-requires : tie.Need-part-requires Inv-loop μ-loop
-part-requires c κs = search needs
-
 written-requires : tie.Need-written-requires Inv-loop μ-loop
 written-requires c κs = search needs
 
@@ -44,7 +41,6 @@ expand-spec =
     μ-loop
     loop-holds
     token-requires
-    part-requires
     written-requires
     loop-less
     loop-again
