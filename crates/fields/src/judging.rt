@@ -1,4 +1,5 @@
 // What is judged of a header line, a defaults line and a job line.
+// Where fields begin and end, and whose field is taken, is in the crate's root.
 use crate::count_fields;
 use crate::field;
 use crate::pick;

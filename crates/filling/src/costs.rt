@@ -1,4 +1,5 @@
 // The cost of a row and of a plan that is sound.
+// What a point costs beside, and how many the budget pays for, is in the crate's root.
 use row_checks::kinds;
 ghost use mathlib.Core.Path.{_≡_};
 ghost use mathlib.Core.Bool.{true};

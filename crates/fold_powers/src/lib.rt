@@ -1,4 +1,5 @@
 // Literal powers and raises of operands that stand at the top of a lent plan.
+// Which node is one of them is decided in `compile`; sums and products are in `fold_sums` and `fold_products`.
 use arrays::Operation;
 use arrays::word_by_word;
 use chain::ChainAnswer;

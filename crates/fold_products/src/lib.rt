@@ -1,4 +1,5 @@
 // Products of operands that stand at the top of a lent plan.
+// Which node is one of them is decided in `compile`; sums and powers are in `fold_sums` and `fold_powers`.
 use arrays::Operation;
 use operands::append;
 use operands::is_constant;

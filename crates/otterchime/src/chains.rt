@@ -1,4 +1,5 @@
 // The chain calls of the door. A chain comes as 17 words f and its length k; words past the length are not read.
+// What a call answers is decided in `arithmetic` and `coefficients`; the calls on formulas, plans and readings are in the crate's root.
 use chain::ChainAnswer;
 ghost use mathlib.Core.Path.{_≡_};
 ghost use Rattle.chain.specs.Answer.{answered, trimOutcome, sumOutcome, differenceOutcome, productOutcome, shiftOutcome, coefficientsOutcome, valueAnswer};
