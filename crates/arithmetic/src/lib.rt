@@ -68,8 +68,8 @@ pub fn product(f: [u64; 17], k: usize, g: [u64; 17], l: usize) -> ChainAnswer
     }
     let f_kept = arrays::kept(f, k);
     let g_kept = arrays::kept(g, l);
-    let f_trimmed = arrays::trimmed_length(f_kept);
-    let g_trimmed = arrays::trimmed_length(g_kept);
+    let f_trimmed = arrays::trimmed_length(f_kept, 0);
+    let g_trimmed = arrays::trimmed_length(g_kept, 0);
     if LONGEST_PRODUCT < f_trimmed + g_trimmed {
         return refusal(15);
     }
@@ -83,7 +83,7 @@ pub fn shift(f: [u64; 17], k: usize) -> ChainAnswer
         return refusal(14);
     }
     let mut shifted = arrays::kept(f, k);
-    arrays::shift_part(&mut shifted);
+    arrays::shift_part(Operation::Sum, &mut shifted);
     accepted(shifted)
 }
 

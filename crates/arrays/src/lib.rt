@@ -5,10 +5,9 @@ ghost use mathlib.Core.Path.{_≡_};
 ghost use mathlib.Core.List.{[]};
 ghost use Prim.Native.Nat.{_+_, _-_, _≤_};
 ghost use lib.ListN.{length, take};
-ghost use Rattle.chain.specs.Chain.{trimmed, row, words};
-ghost use Rattle.chain.specs.SumChain.{sumShift};
+ghost use Rattle.chain.specs.Chain.{trimmed, row};
 ghost use Rattle.chain.specs.Answer.{answered, refused, chain};
-ghost use Rattle.arrays.specs.Operations.{worked, wordByWord};
+ghost use Rattle.arrays.specs.Operations.{worked, wordByWord, shiftedBy};
 
 // What is worked out of two words.
 pub enum Operation {
@@ -39,13 +38,13 @@ pub fn kept(f: [u64; 17], last: usize) -> [u64; 17]
     r
 }
 
-// The index of the last word that is not 0, or 0.
-pub fn trimmed_length(f: [u64; 17]) -> usize
-    ensures { λ r. ⌜ r ≡ length (trimmed 0 f) - 1 ⌝ }
+// The index of the last word that is not the unit, or 0.
+pub fn trimmed_length(f: [u64; 17], unit: u64) -> usize
+    ensures { λ r. ⌜ r ≡ length (trimmed unit f) - 1 ⌝ }
 {
     let mut last = 16;
     while 0 < last {
-        if f[last] != 0 {
+        if f[last] != unit {
             return last;
         }
         last -= 1;
@@ -79,14 +78,14 @@ pub fn word_by_word(operation: Operation, f: [u64; 17], g: [u64; 17]) -> [u64; 1
 }
 
 // One shift in place, from the bottom up: each word meets its neighbour's old value.
-pub fn shift_part(f: &mut [u64])
-    ensures { λ _. ⌜ now (f .exit) ≡ words 64 (sumShift (now (f .entry))) ⌝ }
+pub fn shift_part(operation: Operation, f: &mut [u64])
+    ensures { λ _. ⌜ now (f .exit) ≡ shiftedBy operation (now (f .entry)) ⌝ }
 {
     let len = f.len();
     let mut left = len;
     while 1 < left {
         let at = len - left;
-        f[at] = std::num::wrapping_add_u64(f[at], f[at + 1]);
+        f[at] = worked(operation, f[at], f[at + 1]);
         left -= 1;
     }
 }
@@ -110,7 +109,7 @@ pub fn accepted(elements: [u64; 17]) -> ChainAnswer
     ChainAnswer {
         number: 0,
         place: 0,
-        length: trimmed_length(elements),
+        length: trimmed_length(elements, 0),
         elements,
     }
 }

@@ -64,8 +64,8 @@ module _ (f : List ℕ) (k : ℕ) (long : length f ≡ 17) where
   -- The kept words up to the trimmed length are the trimmed chain.
   pub kept-taken : {e : List ℕ} {n : ℕ} → n ≡ length (trimmed 0 e) - 1 → e ≡ row 17 (take (k + 1) f) → take (n + 1) e ≡ given f k
   kept-taken {e} {n} p q =
-      ap (λ m. take m e) (whole n (length (trimmed 0 e)) p (length-trimmed-some e))
-      ∙ take-trimmed e (rw (q, length-row 17 (take (k + 1) f)) (omega arith))
+      ap (λ m. take m e) (whole n (length (trimmed 0 e)) p (length-trimmed-some 0 e))
+      ∙ take-trimmed 0 e (rw (q, length-row 17 (take (k + 1) f)) (omega arith))
       ∙ ap (λ c. trimmed 0 c) q
       ∙ kept-trimmed
     where
@@ -73,7 +73,7 @@ module _ (f : List ℕ) (k : ℕ) (long : length f ≡ 17) where
       whole n m p h = omega arith
 
   pub length-given : length (given f k) ≤ 17
-  length-given = length-trimmed (take (k + 1) f) 16 length-kept
+  length-given = length-trimmed 0 (take (k + 1) f) 16 length-kept
 
   pub kept-value : (i : ℕ) → sumAt (row 17 (take (k + 1) f)) i ≡ sumAt (given f k) i
   kept-value i = sym (value-trimmed-sum (row 17 (take (k + 1) f)) i) ∙ ap (λ g. sumAt g i) kept-trimmed

@@ -31,9 +31,6 @@ pub shift-unique : (f : List ℕ) (k : ℕ) (r s : ChainAnswer)
     → r ≡ answered (shiftOutcome 64 f k) → s ≡ answered (shiftOutcome 64 f k) → r ≡ s
 shift-unique f k r s = both-are
 
-pub shift-part-unique : (f r s : List ℕ) → r ≡ words 64 (SumChain.sumShift f) → s ≡ words 64 (SumChain.sumShift f) → r ≡ s
-shift-part-unique f r s = both-are
-
 pub value-unique : (f : List ℕ) (k : ℕ) (r s : ValueAnswer) → r ≡ valueAnswer f k → s ≡ valueAnswer f k → r ≡ s
 value-unique f k r s = both-are
 

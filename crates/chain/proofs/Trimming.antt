@@ -1,17 +1,17 @@
--- Trimming: it changes no value, and a sum chain's shift keeps the trimmed length.
-use mathlib.Core.Path.{_≡_, refl, sym, ap, ap₂, _∙_}
+-- Trimming: it changes no value, goes from the last element down, and a sum chain's shift keeps the trimmed length.
+use mathlib.Core.Path.{_≡_, refl, sym, ap, _∙_}
 use mathlib.Core.Bool.{Bool, true, false, cond}
 use mathlib.Core.List.{List, [], _∷_}
 use Prim.Native.Nat.{ℕ, zero, suc, _+_, _-_, _*_, _%_, _^_, _<_, _≤_}
 use native.Mathlib.Nat.{add-zero, mul-one, zero-mul, add-mod-mod, le-of-suc-le-suc, not-suc-le-zero}
+use native.Mathlib.Numerals.{add-one}
 use native.Mathlib.Omega.{arith}
-use lib.Dec.{eqb, ltb}
+use lib.Dec.{eqb}
 use lib.ListN.{length, getD, take}
-use borrow.Author.Tests.{eqb-true, ne-eqb, ltb-true, ltb-false}
+use borrow.Author.Tests.{eqb-true, eq-eqb, ne-eqb}
 use Rattle.chain.specs.Chain.{value, rest, shift, valueAt, words, withLast, withoutTrailing, trimmed, row}
 use Rattle.chain.specs.SumChain.{sumAt, sumShift}
 use Rattle.chain.specs.ProductChain.{productAt, trimmedProduct}
-use Rattle.chain.proofs.Rows.{entry-rest}
 use Rattle.chain.proofs.Values as Values
 
 -- ---- values, for any operation with a unit
@@ -103,28 +103,28 @@ length-row zero f = refl
 length-row (suc n) f = ap suc (length-row n (rest f))
 
 -- ---- the length
-length-with-last : (a : ℕ) (f : List ℕ) → length (withLast 0 a f) ≤ suc (length f)
+length-with-last : (unit a : ℕ) (f : List ℕ) → length (withLast unit a f) ≤ suc (length f)
 unfolding withLast
-length-with-last a [] = go (eqb a 0)
+length-with-last unit a [] = go (eqb a unit)
   where
     go : (t : Bool) → length (cond t [] (a ∷ [])) ≤ 1
     go true = omega arith
     go false = omega arith
-length-with-last a (b ∷ f) = omega arith
+length-with-last unit a (b ∷ f) = omega arith
 
-length-without-trailing : (f : List ℕ) → length (withoutTrailing 0 f) ≤ length f
+pub length-without-trailing : (unit : ℕ) (f : List ℕ) → length (withoutTrailing unit f) ≤ length f
 unfolding withoutTrailing
-length-without-trailing [] = omega arith
-length-without-trailing (a ∷ f) = omega (arith, length-with-last a (withoutTrailing 0 f), length-without-trailing f)
+length-without-trailing unit [] = omega arith
+length-without-trailing unit (a ∷ f) = omega (arith, length-with-last unit a (withoutTrailing unit f), length-without-trailing unit f)
 
-pub length-trimmed : (f : List ℕ) (n : ℕ) → length f ≤ suc n → length (trimmed 0 f) ≤ suc n
+pub length-trimmed : (unit : ℕ) (f : List ℕ) (n : ℕ) → length f ≤ suc n → length (trimmed unit f) ≤ suc n
 unfolding trimmed withoutTrailing
-length-trimmed [] n h = omega arith
-length-trimmed (a ∷ f) n h = omega (arith, length-without-trailing f)
+length-trimmed unit [] n h = omega arith
+length-trimmed unit (a ∷ f) n h = omega (arith, length-without-trailing unit f)
 
-pub length-trimmed-some : (f : List ℕ) → 0 < length (trimmed 0 f)
+pub length-trimmed-some : (unit : ℕ) (f : List ℕ) → 0 < length (trimmed unit f)
 unfolding trimmed
-length-trimmed-some f = omega arith
+length-trimmed-some unit f = omega arith
 
 -- Trimming takes the first elements, as many as it leaves.
 take-with-last : (unit a : ℕ) (f g : List ℕ) → take (length g) f ≡ g → take (length (withLast unit a g)) (a ∷ f) ≡ withLast unit a g
@@ -141,59 +141,53 @@ unfolding withoutTrailing
 take-without-trailing unit [] = refl
 take-without-trailing unit (a ∷ f) = take-with-last unit a f (withoutTrailing unit f) (take-without-trailing unit f)
 
-pub take-trimmed : (f : List ℕ) → 0 < length f → take (length (trimmed 0 f)) f ≡ trimmed 0 f
+pub take-trimmed : (unit : ℕ) (f : List ℕ) → 0 < length f → take (length (trimmed unit f)) f ≡ trimmed unit f
 unfolding trimmed
-take-trimmed [] h = absurd (not-suc-le-zero h)
-take-trimmed (a ∷ f) h = ap {B = List ℕ} (λ g. a ∷ g) (take-without-trailing 0 f)
+take-trimmed unit [] h = absurd (not-suc-le-zero h)
+take-trimmed unit (a ∷ f) h = ap {B = List ℕ} (λ g. a ∷ g) (take-without-trailing unit f)
 
--- ---- the last element that is not 0 ends the trimmed chain
-nothing-left : (f : List ℕ) → ((j : ℕ) → getD f j 0 ≡ 0) → withoutTrailing 0 f ≡ []
-unfolding withoutTrailing withLast
-nothing-left [] none = refl
-nothing-left (a ∷ f) none = ap₂ (λ x g. withLast 0 x g) (none 0) (nothing-left f (λ j. none (suc j)))
+-- ---- trailing units dropped, one after the other from the top
+module _ (unit : ℕ) where
+  dropped : (g : List ℕ) (n : ℕ) → n < length g → getD g n 0 ≡ unit → withoutTrailing unit (take (suc n) g) ≡ withoutTrailing unit (take n g)
+  unfolding withoutTrailing withLast
+  dropped [] n h e = absurd (not-suc-le-zero h)
+  dropped (a ∷ g) zero h e = ap {B = List ℕ} (λ b. cond b [] (a ∷ [])) (eq-eqb a unit e)
+  dropped (a ∷ g) (suc n) h e = ap (λ f. withLast unit a f) (dropped g n (le-of-suc-le-suc h) e)
 
-one-more : (a : ℕ) (g : List ℕ) (n : ℕ) → length g ≡ suc n → length (withLast 0 a g) ≡ suc (suc n)
-unfolding withLast
-one-more a [] n e = absurd (impossible e)
-  where
-    impossible : 0 ≡ suc n → ⊥
-    impossible e = omega arith
-one-more a (b ∷ g) n e = ap suc e
+  stopped : (g : List ℕ) (n : ℕ) → n < length g → (getD g n 0 ≡ unit → ⊥) → withoutTrailing unit (take (suc n) g) ≡ take (suc n) g
+  unfolding withoutTrailing withLast
+  stopped [] n h other = absurd (not-suc-le-zero h)
+  stopped (a ∷ g) zero h other = ap {B = List ℕ} (λ b. cond b [] (a ∷ [])) (ne-eqb a unit other)
+  stopped (a ∷ []) (suc n) h other = absurd (not-suc-le-zero (le-of-suc-le-suc h))
+  stopped (a ∷ b ∷ g) (suc n) h other = ap (λ f. withLast unit a f) (stopped (b ∷ g) n (le-of-suc-le-suc h) other)
 
-last-left : (f : List ℕ) (n : ℕ) → ((j : ℕ) → n < j → getD f j 0 ≡ 0) → (getD f n 0 ≡ 0 → ⊥)
-    → length (withoutTrailing 0 f) ≡ suc n
-unfolding withoutTrailing withLast
-last-left [] n none some = absurd (some refl)
-last-left (a ∷ f) zero none some =
-    ap (λ g. length (withLast 0 a g)) (nothing-left f (λ j. none (suc j) (omega arith)))
-    ∙ ap (λ t. length (cond t [] (a ∷ []))) (ne-eqb a 0 some)
-last-left (a ∷ f) (suc n) none some =
-    one-more a (withoutTrailing 0 f) n (last-left f n (λ j h. none (suc j) (omega arith)) some)
+  pub trailing-dropped : (f : List ℕ) (last : ℕ) → 0 < last → last < length f → getD f last 0 ≡ unit
+      → trimmed unit (take (last + 1) f) ≡ trimmed unit (take (last - 1 + 1) f)
+  unfolding trimmed
+  trailing-dropped [] last some h e = absurd (not-suc-le-zero h)
+  trailing-dropped (a ∷ f) zero some h e = absurd (not-suc-le-zero some)
+  trailing-dropped (a ∷ f) (suc n) some h e =
+      ap (λ k. trimmed unit (take k (a ∷ f))) (add-one (suc n))
+      ∙ ap {B = List ℕ} (λ g. a ∷ g) (dropped f n (le-of-suc-le-suc h) e)
+      ∙ ap (λ k. trimmed unit (take k (a ∷ f))) again
+    where
+      again : suc n ≡ suc n - 1 + 1
+      again = omega arith
 
-pub trimmed-constant : (f : List ℕ) → ((j : ℕ) → 0 < j → getD f j 0 ≡ 0) → length (trimmed 0 f) ≡ 1
-unfolding trimmed
-trimmed-constant f none =
-    ap (λ g. suc (length g)) (nothing-left (rest f) (λ j. entry-rest f j ∙ none (suc j) (omega arith)))
+  pub trailing-stopped : (f : List ℕ) (last : ℕ) → 0 < last → last < length f → (getD f last 0 ≡ unit → ⊥)
+      → trimmed unit (take (last + 1) f) ≡ take (last + 1) f
+  unfolding trimmed
+  trailing-stopped [] last some h other = absurd (not-suc-le-zero h)
+  trailing-stopped (a ∷ f) zero some h other = absurd (not-suc-le-zero some)
+  trailing-stopped (a ∷ f) (suc n) some h other =
+      ap (λ k. trimmed unit (take k (a ∷ f))) (add-one (suc n))
+      ∙ ap {B = List ℕ} (λ g. a ∷ g) (stopped f n (le-of-suc-le-suc h) other)
+      ∙ ap (λ k. take k (a ∷ f)) (sym (add-one (suc n)))
 
-pub trimmed-last : (f : List ℕ) (n : ℕ) → 0 < n → ((j : ℕ) → n < j → getD f j 0 ≡ 0) → (getD f n 0 ≡ 0 → ⊥)
-    → length (trimmed 0 f) ≡ suc n
-unfolding trimmed
-trimmed-last f zero pos none some = absurd (not-suc-le-zero pos)
-trimmed-last f (suc n) pos none some =
-    ap suc
-    (last-left (rest f) n (λ j h. entry-rest f j ∙ none (suc j) (omega arith)) (λ e. some (sym (entry-rest f n) ∙ e)))
-
--- Only zeros past n, and at n: only zeros past n - 1.
-pub zero-down : (f : List ℕ) (n : ℕ) → getD f n 0 ≡ 0 → ((j : ℕ) → n < j → getD f j 0 ≡ 0)
-    → (j : ℕ) → n - 1 < j → getD f j 0 ≡ 0
-zero-down f n here none j h = go (ltb n j) refl
-  where
-    go : (t : Bool) → ltb n j ≡ t → getD f j 0 ≡ 0
-    go true e = none j (ltb-true n j e)
-    go false e = ap (λ k. getD f k 0) (same (ltb-false n j e)) ∙ here
-      where
-        same : j ≤ n → j ≡ n
-        same g = omega arith
+  pub trailing-none : (f : List ℕ) → 0 < length f → trimmed unit (take 1 f) ≡ take 1 f
+  unfolding trimmed withoutTrailing
+  trailing-none [] h = absurd (not-suc-le-zero h)
+  trailing-none (a ∷ f) h = refl
 
 -- ---- a shift keeps the trimmed length: the last element that is not 0 stays
 module _ (w : ℕ) where

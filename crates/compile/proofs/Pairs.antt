@@ -24,4 +24,4 @@ unfolding row
 pair-placed p r first second hz ht hq =
     hq
     ∙ ap (λ (t : ChainAnswer). withRow p r (rowOf t)) (ht ∙ ap (λ z. answered (trimOutcome (set (set z 0 first) 1 second) 1)) hz)
-    ∙ sum-placed p r (trimmed 0 (first ∷ second ∷ [])) (length-trimmed-some (first ∷ second ∷ []))
+    ∙ sum-placed p r (trimmed 0 (first ∷ second ∷ [])) (length-trimmed-some 0 (first ∷ second ∷ []))

@@ -70,7 +70,7 @@ module _ (f : List ℕ) (k : ℕ) where
 
   short-powered : (n : ℕ) → length (powered f k n) ≤ suc (k * n)
   short-powered n =
-      length-trimmed (words 64 (power (take (k + 1) f) n)) (k * n)
+      length-trimmed 0 (words 64 (power (take (k + 1) f) n)) (k * n)
       (rw (length-map (power (take (k + 1) f) n) (λ a. a % 2 ^ 64)) (short-power n))
 
   -- To the first.
@@ -117,13 +117,13 @@ module _ (f : List ℕ) (k : ℕ) where
       short = short-powered i
 
       fits : Chain t
-      fits = record { some = length-trimmed-some (words 64 (power g i)); most = omega (arith, short, room) }
+      fits = record { some = length-trimmed-some 0 (words 64 (power g i)); most = omega (arith, short, room) }
 
       first-short : length (trimmed 0 t) ≤ suc (k * i)
-      first-short = length-trimmed t (k * i) short
+      first-short = length-trimmed 0 t (k * i) short
 
       second-short : length (given f k) ≤ suc k
-      second-short = length-trimmed g k short-take
+      second-short = length-trimmed 0 g k short-take
 
       over : (length (trimmed 0 t) - 1) + (length (given f k) - 1) ≤ 16
       over = omega (arith, room, first-short, second-short)

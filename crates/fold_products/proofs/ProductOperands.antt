@@ -60,7 +60,7 @@ sums-say p r s asked holds =
 
 -- ---- the product of two sum chains, put into a row
 given-short : (f : List ℕ) (k : ℕ) → length (given f k) ≤ suc k
-given-short f k = length-trimmed (take (k + 1) f) k (rw (length-take (k + 1) f) (omega arith))
+given-short f k = length-trimmed 0 (take (k + 1) f) k (rw (length-take (k + 1) f) (omega arith))
 
 module _ (p : List ℕ) (at : ℕ) (f g : List ℕ) (k l : ℕ) (within : k + l ≤ 16) where
   abbrev chainProduct : List ℕ

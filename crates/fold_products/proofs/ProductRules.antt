@@ -99,7 +99,7 @@ module _ (a b : Folded) (not-one-a : is 1 a ≡ false) (not-one-b : is 1 b ≡ f
 -- "C*S and S*C: every element", "S*S with lengths k + l at most 16: document 000's rule", and C*C: the product of the values.
 module _ (e f : List ℕ) (some : 0 < length e) (some′ : 0 < length f) (within : (length e - 1) + (length f - 1) ≤ 16) where
   trims : (g : List ℕ) → 0 < length g → length (trimmed 0 g) ≤ length g
-  trims g h = omega (arith, length-trimmed g (length g - 1) (omega arith))
+  trims g h = omega (arith, length-trimmed 0 g (length g - 1) (omega arith))
 
   same-product : (h : List ℕ) → length h ≤ 17 → ((i : ℕ) → sumAt h i ≡ sumAt e i * sumAt f i)
       → ofSum (trimmed 0 (words 64 h)) ≡ trimmedSum (words 64 (product (trimmed 0 e) (trimmed 0 f)))

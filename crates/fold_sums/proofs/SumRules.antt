@@ -33,7 +33,7 @@ both-as less = difference-as
 
 module _ (w : ℕ) {kind : ℕ} (which : SumOrDifference kind) (f g : List ℕ) (hf : Chain f) (hg : Chain g) where
   trimmed-short : (f : List ℕ) → Chain f → length (trimmed 0 f) ≤ 17
-  trimmed-short f h = length-trimmed f 16 (h .most)
+  trimmed-short f h = length-trimmed 0 f 16 (h .most)
 
   both-trimmed : trimmed 0 (chainOfBoth w kind (trimmed 0 f) (trimmed 0 g)) ≡ trimmed 0 (chainOfBoth w kind f g)
   both-trimmed =

@@ -14,6 +14,7 @@ use Rattle.word.proofs.Ring.{word-fits}
 use Rattle.chain.specs.Chain.{value, rest, joined, words, withLast, withoutTrailing, trimmed}
 use Rattle.chain.specs.SumChain as SumChain
 use Rattle.chain.specs.ProductChain as ProductChain
+use Rattle.chain.proofs.Trimming.{length-without-trailing}
 use Rattle.chain.proofs.Shifting.{length-shift}
 use Rattle.formula.specs.Tree as Tree
 use Rattle.formula.specs.Tree.{Tree, holdsX, nodes}
@@ -83,20 +84,6 @@ length-power f k (suc n) e =
     length-product (SumChain.power f n) f (omega (arith, length-power f k n e)) (omega arith) ∙ omega (arith, length-power f k n e)
 
 -- ---- trimming, for any unit
-length-with-last : (unit a : ℕ) (f : List ℕ) → length (withLast unit a f) ≤ suc (length f)
-unfolding withLast
-length-with-last unit a [] = go (eqb a unit)
-  where
-    go : (t : Bool) → length (cond t [] (a ∷ [])) ≤ 1
-    go true = omega arith
-    go false = omega arith
-length-with-last unit a (b ∷ f) = omega arith
-
-length-without-trailing : (unit : ℕ) (f : List ℕ) → length (withoutTrailing unit f) ≤ length f
-unfolding withoutTrailing
-length-without-trailing unit [] = omega arith
-length-without-trailing unit (a ∷ f) = omega (arith, length-with-last unit a (withoutTrailing unit f), length-without-trailing unit f)
-
 -- A chain trims to no more elements, and to one at the least.
 length-trimmed : (unit : ℕ) (f : List ℕ) → length (trimmed unit f) ≤ max 1 (length f)
 unfolding trimmed

@@ -62,7 +62,7 @@ pub answer-put : (p : List ℕ) (n : ℕ) (f : List ℕ) {answer : ChainAnswer} 
 answer-put p n f ha hq =
     hq
     ∙ ap (λ (r : ChainAnswer). withRow p n (cond (eqb (r .length) 0) 0 1 ∷ (r .length) ∷ 0 ∷ (r .elements))) ha
-    ∙ sum-placed p n (trimmed 0 f) (length-trimmed-some f)
+    ∙ sum-placed p n (trimmed 0 f) (length-trimmed-some 0 f)
 
 -- ---- one operand: "Anything else stays a row of the plan."
 module _ {p : List ℕ} {first end : ℕ} {a : Folded} (o : Operand p first end a) where

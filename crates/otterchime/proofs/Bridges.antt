@@ -233,10 +233,10 @@ last-trimmed f (suc n) h some z = last-without-trailing (rest f) n (omega arith)
 -- ---- chains: what an answer holds of the trimmed form of a chain of 17 words at most
 module _ (f : List ℕ) (short : length f ≤ 17) where
   few : length (trimmed 0 f) ≤ 17
-  few = length-trimmed f 16 short
+  few = length-trimmed 0 f 16 short
 
   count : length (trimmed 0 f) - 1 + 1 ≡ length (trimmed 0 f)
-  count = omega (arith, length-trimmed-some f)
+  count = omega (arith, length-trimmed-some 0 f)
 
   pub answer-length : answered (chain (trimmed 0 f)) .length ≤ 16
   answer-length = omega (arith, few)
@@ -244,7 +244,7 @@ module _ (f : List ℕ) (short : length f ≤ 17) where
   pub answer-last : 0 < answered (chain (trimmed 0 f)) .length
       → getD (answered (chain (trimmed 0 f)) .elements) (answered (chain (trimmed 0 f)) .length) 0 ≡ 0 → ⊥
   answer-last some z =
-      last-trimmed f (length (trimmed 0 f) - 1) (omega (arith, length-trimmed-some f)) some
+      last-trimmed f (length (trimmed 0 f) - 1) (omega (arith, length-trimmed-some 0 f)) some
       (sym (entry-row 17 (trimmed 0 f) (length (trimmed 0 f) - 1) (omega (arith, few))) ∙ z)
 
   pub answer-past : (j : ℕ) → answered (chain (trimmed 0 f)) .length < j → getD (answered (chain (trimmed 0 f)) .elements) j 0 ≡ 0
@@ -266,7 +266,7 @@ pub taken-short : (f : List ℕ) (k : ℕ) → k ≤ 16 → length (take (k + 1)
 taken-short f k h = rw (length-take (k + 1) f) (omega arith)
 
 given-short : (f : List ℕ) (k : ℕ) → k ≤ 16 → length (given f k) ≤ 17
-given-short f k h = length-trimmed (take (k + 1) f) 16 (taken-short f k h)
+given-short f k h = length-trimmed 0 (take (k + 1) f) 16 (taken-short f k h)
 
 module _ (f : List ℕ) (k : ℕ) where
   pub shift-short : k ≤ 16 → length (words 64 (SumChain.sumShift (given f k))) ≤ 17

@@ -1,11 +1,11 @@
 // The work of one point of a sound plan: the values of its rows, and one shift of its chains, in place.
 // How many points there are is for `filling`.
+use arrays::Operation;
+use arrays::shift_part;
 ghost use mathlib.Core.Path.{_≡_};
 ghost use mathlib.Core.Bool.{true};
 ghost use Prim.Native.Nat.{_≤_, _<_};
 ghost use lib.ListN.{length};
-ghost use Rattle.chain.specs.Chain.{words};
-ghost use Rattle.chain.specs.ProductChain.{productShift};
 ghost use Rattle.plan.specs.Row.{kind, wordA, wordB, isChain};
 ghost use Rattle.plan.specs.Plan.{sound};
 ghost use Rattle.plan.specs.Points.{rowValue, rootValue, shiftedRow, shiftedPlan};
@@ -48,19 +48,6 @@ pub fn root_value(plan: &[u64], values: &mut [u64]) -> u64
     values[count - 1]
 }
 
-// One shift of a product chain in place, from the bottom up: each word meets its neighbour's old value.
-fn shift_product(f: &mut [u64])
-    ensures { λ _. ⌜ now (f .exit) ≡ words 64 (productShift (now (f .entry))) ⌝ }
-{
-    let len = f.len();
-    let mut left = len;
-    while 1 < left {
-        let at = len - left;
-        f[at] = word::times(f[at], f[at + 1]);
-        left -= 1;
-    }
-}
-
 // One shift of a row of a sound plan.
 fn shift_row(row: &mut [u64])
     requires { ⌜ length (now row) ≡ 20 ⌝ }
@@ -70,12 +57,12 @@ fn shift_row(row: &mut [u64])
     let kind = row[0];
     if kind == 1 {
         let end = 4 + row[1] as usize;
-        arrays::shift_part(&mut row[3..end]);
+        shift_part(Operation::Sum, &mut row[3..end]);
         return;
     }
     if kind == 2 {
         let end = 4 + row[1] as usize;
-        shift_product(&mut row[3..end]);
+        shift_part(Operation::Product, &mut row[3..end]);
     }
 }
 

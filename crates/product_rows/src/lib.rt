@@ -1,10 +1,8 @@
 // Product chains as 17 words: filled with ones to work on them, trimmed to put them into a row.
 // Which chains are joined, and how, is decided in the crates above.
-use rows::Trimmed;
 ghost use mathlib.Core.Path.{_≡_};
-ghost use Prim.Native.Nat.{_+_, _-_, _≤_, _<_};
+ghost use Prim.Native.Nat.{_+_, _≤_, _<_};
 ghost use lib.ListN.{length, take};
-ghost use Rattle.chain.specs.Chain.{row, trimmed};
 ghost use Rattle.folding.specs.Folded.{trimmedProduct};
 ghost use Rattle.rows.specs.Standing.{filledWithOnes, placed};
 
@@ -22,28 +20,6 @@ pub fn with_ones(elements: [u64; 17], last: usize) -> [u64; 17]
     r
 }
 
-// Trailing ones dropped, 0 past the length.
-fn trim_ones(elements: [u64; 17]) -> Trimmed
-    ensures { λ r. ⌜ r ≡ record { length = length (trimmed 1 elements) - 1; elements = row 17 (trimmed 1 elements) } ⌝ }
-{
-    let mut e = elements;
-    let mut last = 16;
-    while 0 < last {
-        if e[last] != 1 {
-            return Trimmed {
-                length: last,
-                elements: e,
-            };
-        }
-        e[last] = 0;
-        last -= 1;
-    }
-    Trimmed {
-        length: 0,
-        elements: e,
-    }
-}
-
 // The row of a product chain of 17 elements, trimmed; with a first element 0 it is the constant 0.
 pub fn put_product(plan: &mut [u64], r: usize, elements: [u64; 17])
     requires { ⌜ 2561 ≤ length (now plan) ⌝ }
@@ -54,7 +30,6 @@ pub fn put_product(plan: &mut [u64], r: usize, elements: [u64; 17])
         rows::put_chain(plan, r, 2, 0, arrays::zeros());
         return;
     }
-    let t = trim_ones(elements);
-    let trimmed = t.elements;
-    rows::put_chain(plan, r, 2, t.length, trimmed);
+    let last = arrays::trimmed_length(elements, 1);
+    rows::put_chain(plan, r, 2, last, arrays::kept(elements, last));
 }

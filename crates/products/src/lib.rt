@@ -1,5 +1,6 @@
 // The product of two sum chains, by document 000's rule, in place and with one scratch array.
 // Whether the lengths allow a product is checked by the caller in `arithmetic`.
+use arrays::Operation;
 ghost use mathlib.Core.Path.{_≡_};
 ghost use Prim.Native.Nat.{_+_, _≤_};
 ghost use lib.ListN.{length, take};
@@ -35,7 +36,7 @@ fn add_product(out: &mut [u64], f: &[u64], g: &mut [u64])
     let first = word::times(f[0], g[0]);
     out[0] = std::num::wrapping_add_u64(out[0], first);
     add_product(&mut out[1..], f, &mut g[1..]);
-    arrays::shift_part(g);
+    arrays::shift_part(Operation::Sum, g);
     add_product(&mut out[1..], &f[1..], g);
     unshift_part(g);
 }

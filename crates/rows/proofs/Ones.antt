@@ -1,17 +1,12 @@
--- Product chains as 17 words: filled with ones past the length, and trimmed of their trailing ones from the top down.
+-- Product chains as 17 words: filled with ones past the length.
 use mathlib.Core.Path.{_≡_, refl, sym, ap, ap₂, _∙_}
-use mathlib.Core.Bool.{cond}
 use mathlib.Core.List.{List, [], _∷_, _++_, append-nil, append-assoc}
 use Prim.Native.Nat.{ℕ, zero, suc, _+_, _-_, _≤_, _<_}
 use native.Mathlib.Nat.{not-suc-le-zero, le-of-suc-le-suc, suc-sub-suc, sub-zero}
 use native.Mathlib.Numerals.{add-one}
 use native.Mathlib.Omega.{arith}
 use lib.ListN.{length, getD, take, drop, set, replicate, take-append-drop, length-append, length-replicate, replicate-append-replicate, drop-of-length-le}
-use lib.Seq.{take-nil, take-all, drop-cons, set-at, getD-take, length-take-le, append-snoc}
-use borrow.Author.Tests.{eq-eqb, ne-eqb}
-use Rattle.chain.specs.Chain.{withLast, withoutTrailing, trimmed, row}
-use Rattle.chain.proofs.Rows.{entry-row, row-whole, row-take}
-use Rattle.rows.specs.declared.Trimmed.{Trimmed}
+use lib.Seq.{drop-cons, set-at, length-take-le, append-snoc}
 use Rattle.rows.specs.Standing.{filledWithOnes}
 
 -- Elements and then ones.
@@ -72,117 +67,3 @@ ones-all last j e h k long q =
 
     rest : 16 - last ≡ 17 - length (take (last + 1) e)
     rest = omega (arith, count)
-
--- ---- trailing ones dropped, one after the other from the top
-module _ (unit : ℕ) where
-  dropped : (g : List ℕ) (n : ℕ) → n < length g → getD g n 0 ≡ unit → withoutTrailing unit (take (suc n) g) ≡ withoutTrailing unit (take n g)
-  unfolding withoutTrailing withLast
-  dropped [] n h e = absurd (not-suc-le-zero h)
-  dropped (a ∷ g) zero h e = ap {B = List ℕ} (λ b. cond b [] (a ∷ [])) (eq-eqb a unit e)
-  dropped (a ∷ g) (suc n) h e = ap (λ f. withLast unit a f) (dropped g n (le-of-suc-le-suc h) e)
-
-  stopped : (g : List ℕ) (n : ℕ) → n < length g → (getD g n 0 ≡ unit → ⊥) → withoutTrailing unit (take (suc n) g) ≡ take (suc n) g
-  unfolding withoutTrailing withLast
-  stopped [] n h other = absurd (not-suc-le-zero h)
-  stopped (a ∷ g) zero h other = ap {B = List ℕ} (λ b. cond b [] (a ∷ [])) (ne-eqb a unit other)
-  stopped (a ∷ []) (suc n) h other = absurd (not-suc-le-zero (le-of-suc-le-suc h))
-  stopped (a ∷ b ∷ g) (suc n) h other = ap (λ f. withLast unit a f) (stopped (b ∷ g) n (le-of-suc-le-suc h) other)
-
-  pub trailing-dropped : (f : List ℕ) (last : ℕ) → 0 < last → last < length f → getD f last 0 ≡ unit
-      → trimmed unit (take (last + 1) f) ≡ trimmed unit (take (last - 1 + 1) f)
-  unfolding trimmed
-  trailing-dropped [] last some h e = absurd (not-suc-le-zero h)
-  trailing-dropped (a ∷ f) zero some h e = absurd (not-suc-le-zero some)
-  trailing-dropped (a ∷ f) (suc n) some h e =
-      ap (λ k. trimmed unit (take k (a ∷ f))) (add-one (suc n))
-      ∙ ap {B = List ℕ} (λ g. a ∷ g) (dropped f n (le-of-suc-le-suc h) e)
-      ∙ ap (λ k. trimmed unit (take k (a ∷ f))) again
-    where
-      again : suc n ≡ suc n - 1 + 1
-      again = omega arith
-
-  pub trailing-stopped : (f : List ℕ) (last : ℕ) → 0 < last → last < length f → (getD f last 0 ≡ unit → ⊥)
-      → trimmed unit (take (last + 1) f) ≡ take (last + 1) f
-  unfolding trimmed
-  trailing-stopped [] last some h other = absurd (not-suc-le-zero h)
-  trailing-stopped (a ∷ f) zero some h other = absurd (not-suc-le-zero some)
-  trailing-stopped (a ∷ f) (suc n) some h other =
-      ap (λ k. trimmed unit (take k (a ∷ f))) (add-one (suc n))
-      ∙ ap {B = List ℕ} (λ g. a ∷ g) (stopped f n (le-of-suc-le-suc h) other)
-      ∙ ap (λ k. take k (a ∷ f)) (sym (add-one (suc n)))
-
-  pub trailing-none : (f : List ℕ) → 0 < length f → trimmed unit (take 1 f) ≡ take 1 f
-  unfolding trimmed withoutTrailing
-  trailing-none [] h = absurd (not-suc-le-zero h)
-  trailing-none (a ∷ f) h = refl
-
--- A word of a row cleared.
-row-cleared : (n i : ℕ) (h : List ℕ) → i < n → set (row n (take (suc i) h)) i 0 ≡ row n (take i h)
-unfolding row
-row-cleared zero i h p = absurd (not-suc-le-zero p)
-row-cleared (suc n) zero [] p = refl
-row-cleared (suc n) zero (a ∷ h) p = refl
-row-cleared (suc n) (suc i) [] p = ap {B =
-    List ℕ} (λ g. 0 ∷ g) (ap (λ g. set (row n g) i 0) (sym (take-nil (suc i))) ∙ row-cleared n i [] (le-of-suc-le-suc p) ∙ ap (row n) (take-nil i))
-row-cleared (suc n) (suc i) (a ∷ h) p = ap {B = List ℕ} (λ g. a ∷ g) (row-cleared n i h (le-of-suc-le-suc p))
-
--- What an array of 17 words holds when it is cut behind element `last`, and what its trimmed chain is.
-pub record Cut (unit last : ℕ) (e r : List ℕ) : Type 0 where
-  pub inside : last ≤ 16
-  pub kept : r ≡ row 17 (take (last + 1) e)
-  pub same : trimmed unit e ≡ trimmed unit (take (last + 1) e)
-
-module _ (unit : ℕ) (e : List ℕ) (long : length e ≡ 17) where
-  pub cut-none : Cut unit 16 e e
-  cut-none = record {
-    inside = omega arith;
-    kept = sym (row-take 17 e ∙ row-whole 17 e long);
-    same = ap (trimmed unit) (sym (take-all 17 e (omega arith)));
-  }
-
-  -- The word behind which it is cut is still that of the chain.
-  pub cut-word : {last : ℕ} {r : List ℕ} → Cut unit last e r → getD r last 0 ≡ getD e last 0
-  cut-word {last} h =
-      ap (λ l. getD l last 0) (h .kept)
-      ∙ entry-row 17 (take (last + 1) e) last (omega (arith, h .inside))
-      ∙ getD-take (last + 1) e last 0 (omega arith)
-
-  pub cut-next : {last : ℕ} {r : List ℕ} → Cut unit last e r → 0 < last → getD r last 0 ≡ unit → Cut unit (last - 1) e (set r last 0)
-  cut-next {last} h some q = record {
-    inside = omega (arith, h .inside);
-    kept =
-        ap (λ l. set l last 0) (h .kept ∙ ap (λ k. row 17 (take k e)) (add-one last))
-        ∙ row-cleared 17 last e (omega (arith, h .inside))
-        ∙ ap (λ k. row 17 (take k e)) again;
-    same = h .same ∙ trailing-dropped unit e last some (omega (arith, h .inside)) (sym (cut-word h) ∙ q);
-  }
-    where
-      again : last ≡ last - 1 + 1
-      again = omega arith
-
-abbrev pub trimming : ℕ → List ℕ → Trimmed
-trimming n f = record { length = n; elements = f }
-
--- What the code answers where it meets a word that is not 1, or none is left.
-module _ (e : List ℕ) (long : length e ≡ 17) where
-  answered : (last : ℕ) {r : List ℕ} → last ≤ 16 → r ≡ row 17 (take (last + 1) e) → trimmed 1 e ≡ take (last + 1) e
-      → trimming last r ≡ trimming (length (trimmed 1 e) - 1) (row 17 (trimmed 1 e))
-  answered last few kept same = ap₂ (λ n f. trimming n f) count (kept ∙ ap (row 17) (sym same))
-    where
-      count : last ≡ length (trimmed 1 e) - 1
-      count = omega (arith, ap length same, length-take-le (last + 1) e (omega arith))
-
-  pub cut-found : {last : ℕ} {r : List ℕ} → Cut 1 last e r → 0 < last → (getD r last 0 ≡ 1 → ⊥)
-      → trimming last r ≡ trimming (length (trimmed 1 e) - 1) (row 17 (trimmed 1 e))
-  cut-found {last} h some other =
-      answered last (h .inside) (h .kept)
-      (h .same ∙ trailing-stopped 1 e last some (omega (arith, h .inside)) (λ q. other (cut-word 1 e long h ∙ q)))
-
-  pub cut-done : {last : ℕ} {r : List ℕ} → Cut 1 last e r → last ≤ 0
-      → trimming 0 r ≡ trimming (length (trimmed 1 e) - 1) (row 17 (trimmed 1 e))
-  cut-done {last} h none =
-      answered 0 (omega arith) (h .kept ∙ ap (λ n. row 17 (take (n + 1) e)) zero)
-      (h .same ∙ ap (λ n. trimmed 1 (take (n + 1) e)) zero ∙ trailing-none 1 e (omega arith))
-    where
-      zero : last ≡ 0
-      zero = omega arith

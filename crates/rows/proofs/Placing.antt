@@ -1,24 +1,23 @@
 -- Rows that a folded tree stands as: the row of a constant or a chain, and a row moved down by one.
-use mathlib.Core.Path.{_≡_, sym, ap, _∙_}
+use mathlib.Core.Path.{_≡_, sym, ap, ap₂, _∙_}
 use mathlib.Core.Bool.{cond}
 use mathlib.Core.List.{List, [], _∷_, append-nil}
 use Prim.Native.Nat.{ℕ, suc, _+_, _-_, _*_, _<_}
 use native.Mathlib.Nat.{not-suc-le-zero}
 use native.Mathlib.Omega.{arith}
 use lib.Dec.{eqb, ltb}
-use lib.ListN.{length, getD}
+use lib.ListN.{length, getD, take}
 use borrow.Author.Tests.{ne-eqb}
 use Rattle.chain.specs.Chain.{row}
 use Rattle.chain.specs.Chain as Chain
+use Rattle.chain.proofs.Trimming.{take-trimmed, length-trimmed-some}
 use Rattle.plan.specs.Row.{elements, operandCount}
 use Rattle.plan.specs.Plan as Plan
 use Rattle.plan.proofs.RowLaws.{word-at}
 use Rattle.plan.proofs.SoundLaws.{kind-at}
 use Rattle.folding.specs.Folded.{ofSum, ofProduct, trimmedProduct}
 use Rattle.folding.specs.Layout.{rowWords, rowsFrom, wordsOf}
-use Rattle.rows.specs.declared.Trimmed.{Trimmed}
 use Rattle.rows.specs.Standing.{withRow, placed, lowered}
-use Rattle.rows.proofs.Ones.{trimming}
 
 -- The row of a chain of this kind with these elements; a chain of length 0 is a constant.
 abbrev pub chainWords : ℕ → List ℕ → List ℕ
@@ -73,9 +72,15 @@ module _ (p : List ℕ) (r : ℕ) (f : List ℕ) (long : length f ≡ 17) where
   pub put-zero : {e q : List ℕ} → getD f 0 0 ≡ 0 → e ≡ row 17 [] → q ≡ withRow p r (0 ∷ 0 ∷ 0 ∷ e) → q ≡ placed p r (trimmedProduct f)
   put-zero z he hq = hq ∙ ap (λ x. withRow p r x) (ap {B = List ℕ} (λ g. 0 ∷ 0 ∷ 0 ∷ g) he ∙ sym (product-zero r f (omega arith) z))
 
-  pub put-trimmed : {t : Trimmed} {q : List ℕ} → (getD f 0 0 ≡ 0 → ⊥) → t ≡ trimming (length (Chain.trimmed 1 f) - 1) (row 17 (Chain.trimmed 1 f))
-      → q ≡ withRow p r (cond (eqb (t .length) 0) 0 2 ∷ (t .length) ∷ 0 ∷ (t .elements)) → q ≡ placed p r (trimmedProduct f)
-  put-trimmed z ht hq =
+  pub put-trimmed : {last : ℕ} {e q : List ℕ} → (getD f 0 0 ≡ 0 → ⊥) → last ≡ length (Chain.trimmed 1 f) - 1 → e ≡ row 17 (take (last + 1) f)
+      → q ≡ withRow p r (cond (eqb last 0) 0 2 ∷ last ∷ 0 ∷ e) → q ≡ placed p r (trimmedProduct f)
+  put-trimmed {last} {e} z count kept hq =
       hq
-      ∙ ap (λ (t : Trimmed). withRow p r (cond (eqb (t .length) 0) 0 2 ∷ (t .length) ∷ 0 ∷ (t .elements))) ht
+      ∙ ap₂ (λ n g. withRow p r (cond (eqb n 0) 0 2 ∷ n ∷ 0 ∷ g)) count (kept ∙ ap (row 17) whole)
       ∙ ap (λ x. withRow p r x) (sym (product-trimmed r f (omega arith) z))
+    where
+      all : last + 1 ≡ length (Chain.trimmed 1 f)
+      all = omega (arith, count, length-trimmed-some 1 f)
+
+      whole : take (last + 1) f ≡ Chain.trimmed 1 f
+      whole = ap (λ n. take n f) all ∙ take-trimmed 1 f (omega arith)

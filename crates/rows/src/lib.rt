@@ -10,12 +10,6 @@ ghost use Rattle.plan.specs.Row.{elements};
 ghost use Rattle.plan.specs.Plan.{row};
 ghost use Rattle.rows.specs.Standing.{withRow};
 
-// A product chain without its trailing ones: its length and its elements, 0 past them.
-pub struct Trimmed {
-    pub length: usize,
-    pub elements: [u64; 17],
-}
-
 // The 17 element words of row r.
 pub fn elements(plan: &[u64], r: usize) -> [u64; 17]
     requires { ⌜ 2561 ≤ length (now plan) ⌝ }

@@ -49,17 +49,17 @@ slice-read-end-2 c = search needs
 add-end-2 : tie.Need-add-end-2
 add-end-2 c = omega (arith, (c .before .before .before .before .before .pre .1) (ap (λ k. isChain k) (c .before .if2 .taken)))
 
-sub-shift-product : tie.Need-sub-shift-product
-sub-shift-product c = search needs
+sub-shift-part-2 : tie.Need-sub-shift-part-2
+sub-shift-part-2 c = search needs
 
-part-shift-product-start : tie.Need-part-shift-product-start
-part-shift-product-start c = search needs
+part-shift-part-start-2 : tie.Need-part-shift-part-start-2
+part-shift-part-start-2 c = search needs
 
-part-shift-product-end : tie.Need-part-shift-product-end
-part-shift-product-end c = omega (arith, (c .before .before .before .before .before .pre .1) (ap (λ k. isChain k) (c .before .if2 .taken)))
+part-shift-part-end-2 : tie.Need-part-shift-part-end-2
+part-shift-part-end-2 c = omega (arith, (c .before .before .before .before .before .pre .1) (ap (λ k. isChain k) (c .before .if2 .taken)))
 
-shift-product-requires : tie.Need-shift-product-requires
-shift-product-requires c κs = search needs
+shift-part-requires-2 : tie.Need-shift-part-requires-2
+shift-part-requires-2 c κs = search needs
 
 same-length-2 : tie.Need-same-length-2
 same-length-2 c = search needs
@@ -67,7 +67,7 @@ same-length-2 c = search needs
 returns-2 : tie.Need-returns-2
 returns-2 c =
     let row = c .before .before .before .before .before .before .before .before .before .args .row .now in
-    chain-put row _ ∙ ap (λ f. withChain row f) ((c .before .before .shift-product .ensures) ∙ ap (λ f. words 64 (productShift f)) (chain-part row)) ∙ sym
+    chain-put row _ ∙ ap (λ f. withChain row f) ((c .before .before .shift-part2 .ensures) ∙ ap (λ f. words 64 (productShift f)) (chain-part row)) ∙ sym
     (shifted-product 64 row (c .before .before .before .before .before .if2 .taken))
 
 returns-3 : tie.Need-returns-3
@@ -90,10 +90,10 @@ shift-row-spec =
     returns
     slice-read-end-2
     add-end-2
-    sub-shift-product
-    part-shift-product-start
-    part-shift-product-end
-    shift-product-requires
+    sub-shift-part-2
+    part-shift-part-start-2
+    part-shift-part-end-2
+    shift-part-requires-2
     same-length-2
     returns-2
     returns-3)

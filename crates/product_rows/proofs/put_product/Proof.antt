@@ -1,5 +1,9 @@
 -- `put_product` puts the constant 0, or the trimmed chain.
+use mathlib.Core.Path.{_≡_}
+use native.Mathlib.Omega.{arith}
+use lib.ListN.{length}
 use borrow.Author.Needs.{needs}
+use Rattle.chain.proofs.Trimming.{length-trimmed}
 use Rattle.rows.proofs.Placing.{put-zero, put-trimmed}
 use Rattle.product_rows.proofs.put_product.Statement.{statement}
 use Rattle.product_rows.proofs.put_product.Tie as tie
@@ -24,8 +28,14 @@ returns c =
     put-zero plan r t3 (search needs) (c .before .before .before .before .before .if1 .taken) (c .before .before .before .zeros .ensures)
     (c .before .before .put-chain .ensures)
 
-trim-ones-requires : tie.Need-trim-ones-requires
-trim-ones-requires c κs = search needs
+trimmed-length-requires : tie.Need-trimmed-length-requires
+trimmed-length-requires c κs = search needs
+
+kept-requires : tie.Need-kept-requires
+kept-requires c κs =
+    let t3 = c .before .before .before .before .args .t3 in
+    let long : length t3 ≡ 17 = search needs in
+    omega (arith, c .before .trimmed-length .ensures, length-trimmed 1 t3 16 (omega arith))
 
 put-chain-requires-2 : tie.Need-put-chain-requires-2
 put-chain-requires-2 c κs = search needs
@@ -35,11 +45,10 @@ same-length-2 c = search needs
 
 returns-2 : tie.Need-returns-2
 returns-2 c =
-    let plan = c .before .before .before .before .before .before .before .before .args .plan .now in
-    let r = c .before .before .before .before .before .before .before .before .args .r in
-    let t3 = c .before .before .before .before .before .before .before .before .args .t3 in
-    put-trimmed plan r t3 (search needs) (c .before .before .before .before .before .before .if1 .left)
-    (c .before .before .before .before .before .trim-ones .ensures) (c .before .before .put-chain2 .ensures)
+    let args = c .before .before .before .before .before .before .before .before .args in
+    put-trimmed (args .plan .now) (args .r) (args .t3) (search needs) (c .before .before .before .before .before .before .if1 .left)
+    (c .before .before .before .before .before .trimmed-length .ensures) (c .before .before .before .kept .ensures)
+    (c .before .before .put-chain2 .ensures)
 
 pub put-product-spec : {M : Type 1} → statement M
 put-product-spec =
@@ -50,7 +59,8 @@ put-product-spec =
     put-chain-requires
     same-length
     returns
-    trim-ones-requires
+    trimmed-length-requires
+    kept-requires
     put-chain-requires-2
     same-length-2
     returns-2)
