@@ -1,4 +1,4 @@
--- The operations on two words, and on two arrays word by word. Chains and their rules are in `chain`.
+-- The operations on two words, on two arrays word by word, and from word to word of a chain that is shifted. Chains and their rules are in `chain`.
 use mathlib.Core.List.{List, [], _∷_}
 use Prim.Native.Nat.{ℕ, _+_, _-_, _*_, _%_, _^_}
 use Rattle.chain.specs.Chain.{words, shift}

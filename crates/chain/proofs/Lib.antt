@@ -1,4 +1,4 @@
--- Laws of chains, for this crate's proofs and for the crates above.
+-- Laws of chains, for the crates above.
 pub mod Values
 pub mod Trimming
 pub mod SumLaws

@@ -1,5 +1,5 @@
 -- The answers of the public calls, for all inputs: which refusal, or which trimmed chain.
--- The width w is a parameter of every outcome; the calls of this crate have w = 64.
+-- The width w is a parameter of every outcome; the calls have w = 64.
 use mathlib.Core.Bool.{cond}
 use mathlib.Core.List.{List, []}
 use Prim.Native.Nat.{ℕ, _+_, _-_}

@@ -1,4 +1,4 @@
--- What the contracts of `chain` cite: chains of recurrences, coefficient lists, and the answers of the public calls.
+-- What the contracts of the calls on chains cite: chains of recurrences, coefficient lists, and the answers of the public calls.
 pub mod Chain
 pub mod SumChain
 pub mod ProductChain

@@ -1,5 +1,5 @@
--- What the contracts of `formula` cite. A reader has to believe Tree, Grammar, Value, Words and Refusals; Scan and Readers are
--- the forms that the private readers' contracts go by, and Verdict is the answer as one function; proofs/ shows that they say what Grammar
+-- What the contracts of the readers cite. A reader has to believe Tree, Grammar, Value, Words and Refusals; Scan and Readers are
+-- the forms that the readers' own contracts go by, and Verdict is the answer as one function; proofs/ shows that they say what Grammar
 -- and Refusals say.
 pub mod Bytes
 pub mod Tree

@@ -1,4 +1,4 @@
--- What the contracts of `job` cite: what a whole run prints, one step of it over lent buffers, and runs as lists of calls.
+-- What the contracts of `lines` and `steps` cite: what a whole run prints, one step of it over lent buffers, and runs as lists of calls.
 pub mod Run
 pub mod Steps
 pub mod Runs

@@ -1,4 +1,4 @@
--- Laws of plans, for this crate's proofs and for the crates above.
+-- Laws of plans, for the crates above.
 pub mod RowLaws
 pub mod SoundLaws
 pub mod Keeping

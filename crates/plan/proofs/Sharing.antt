@@ -127,7 +127,7 @@ shared-alike w p calls others e same = (
   spent-points w p calls e ∙ ap (λ n. n * pointCost p) same ∙ sym (spent-points w p others e),
 )
 
--- ---- any two answers that meet a public contract of this crate are equal, with all that they leave in table and plan
+-- ---- any two answers that meet the contract of `fill`, `cost` or `sound` are equal, with all that they leave in table and plan
 pub fill-unique : (p table : List ℕ) (budget : ℕ) (r s : FillAnswer) (t u q v : List ℕ)
     → r ≡ fill 64 p table budget .answer → t ≡ fill 64 p table budget .table → q ≡ fill 64 p table budget .plan
     → s ≡ fill 64 p table budget .answer → u ≡ fill 64 p table budget .table → v ≡ fill 64 p table budget .plan

@@ -1,4 +1,4 @@
--- Laws for this crate's proofs and for the crates above.
+-- Laws of what a job prints, for the crates above.
 pub mod PointLines
 pub mod AllPoints
 pub mod DirectValues

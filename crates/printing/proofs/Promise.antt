@@ -1,4 +1,4 @@
--- Any two answers that meet a public contract of this crate are equal, with every word that they leave.
+-- Any two answers that meet a contract of `printer` are equal, with every word that they leave.
 use mathlib.Core.Path.{_≡_}
 use mathlib.Core.List.{List}
 use Prim.Native.Nat.{ℕ}

@@ -1,2 +1,2 @@
--- What the contracts of `printing` cite: the lines that a job prints, and what is left in the plan and the table that it worked with.
+-- What the contracts of `writing` and `printer` cite: the lines that a job prints, and what is left in the plan and the table that it worked with.
 pub mod Printed
