@@ -7,8 +7,8 @@ use lib.Dec.{eqb}
 use borrow.Author.Tests.{ne-eqb}
 use Rattle.numerals.specs.declared.FieldNumber.{FieldNumber}
 use Rattle.numerals.specs.NumberField.{numberUpTo}
-use Rattle.fields.specs.declared.judging.DefaultsLine.{DefaultsLine}
-use Rattle.fields.specs.declared.judging.JobLine.{JobLine}
+use Rattle.fields.specs.declared.DefaultsLine.{DefaultsLine}
+use Rattle.fields.specs.declared.JobLine.{JobLine}
 use Rattle.fields.specs.Parts.{field, picked}
 use Rattle.fields.specs.Judged.{isMisshapen, largestWord, mostPoints, badNumber, emptyField, defaultsAt}
 use Rattle.fields.specs.Judged.{judgedDefaults, jobRefused, judgedNumbers, judgedJob}

@@ -12,8 +12,8 @@ use borrow.Author.Tests.{eqb-true, eq-eqb, lt-ltb, ltb-true, ltb-false, leb-true
 use Rattle.formula.specs.Bytes.{digitsFrom}
 use Rattle.numerals.specs.NumberField.{isEmpty, isNumber, numberUpTo}
 use Rattle.numerals.specs.declared.FieldNumber.{FieldNumber}
-use Rattle.fields.specs.declared.judging.DefaultsLine.{DefaultsLine}
-use Rattle.fields.specs.declared.judging.JobLine.{JobLine}
+use Rattle.fields.specs.declared.DefaultsLine.{DefaultsLine}
+use Rattle.fields.specs.declared.JobLine.{JobLine}
 use Rattle.fields.specs.Parts.{field, picked}
 use Rattle.fields.specs.Judged.{headerLine, sameBytes, isHeader, isMisshapen, largestWord, mostPoints, badNumber, emptyField}
 use Rattle.fields.specs.Judged.{judgedDefaults, jobRefused, judgedNumbers, judgedJob}

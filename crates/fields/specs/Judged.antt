@@ -5,8 +5,8 @@ use Prim.Native.Nat.{ℕ, _-_, _^_}
 use lib.Dec.{eqb, ltb}
 use lib.ListN.{length}
 use Rattle.numerals.specs.NumberField.{isEmpty, numberUpTo}
-use Rattle.fields.specs.declared.judging.DefaultsLine.{DefaultsLine}
-use Rattle.fields.specs.declared.judging.JobLine.{JobLine}
+use Rattle.fields.specs.declared.DefaultsLine.{DefaultsLine}
+use Rattle.fields.specs.declared.JobLine.{JobLine}
 use Rattle.fields.specs.Parts.{field, fieldCount, picked}
 
 -- "a line `chain-jobs`, tab, `1`"

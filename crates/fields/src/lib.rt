@@ -1,18 +1,26 @@
-// Lines of a job file: their fields, and what is judged of a header, a defaults line and a job line.
-// What a line prints, and how lines are found in the input, is in the crates above.
-mod judging;
-
-pub use judging::DefaultsLine;
-pub use judging::JobLine;
-pub use judging::is_header;
-pub use judging::judge_defaults;
-pub use judging::judge_job;
+// Fields of a line of a job file: where they begin and end, how many there are, and whose field is taken.
+// What is judged of a line is in `judging`; what a line prints, and how lines are found in the input, is in the crates above.
 ghost use mathlib.Core.Path.{_≡_};
 ghost use Prim.Native.Nat.{_+_, _≤_};
 ghost use lib.ListN.{length, drop};
 ghost use Rattle.fields.specs.Parts.{before, afterTabs, field, fieldCount, picked};
 
 const TAB: u8 = 9;
+
+// Refused 11 at a place, or taken.
+pub struct DefaultsLine {
+    pub ok: bool,
+    pub place: u64,
+}
+
+// Refused 11 at a place, or taken with the numbers of its fields.
+pub struct JobLine {
+    pub ok: bool,
+    pub place: u64,
+    pub start: u64,
+    pub step: u64,
+    pub count: u64,
+}
 
 // The place of the first such byte at or after a place, or the length.
 pub fn find(bytes: &[u8], from: usize, byte: u8) -> usize
@@ -70,7 +78,7 @@ pub fn pick<'a>(job: &'a [u8], defaults: &'a [u8], n: usize) -> &'a [u8]
 }
 
 // How many fields a line has: one more than tabs.
-fn count_fields(line: &[u8]) -> usize
+pub fn count_fields(line: &[u8]) -> usize
     ensures { λ r. ⌜ r ≡ fieldCount (now (line .entry)) ⌝ }
 {
     let mut fields = 1;

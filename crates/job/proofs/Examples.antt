@@ -19,7 +19,7 @@ use Rattle.folding.specs.Folding.{foldSum, foldMinus, foldDifference, foldProdu
 use Rattle.folding.specs.Layout as Layout
 use Rattle.numerals.specs.Decimal.{lastDigits}
 use Rattle.numerals.specs.NumberField.{allDigits, isNumber, numberUpTo}
-use Rattle.fields.specs.declared.judging.JobLine.{JobLine}
+use Rattle.fields.specs.declared.JobLine.{JobLine}
 use Rattle.fields.specs.Parts.{inFirst, lines, before, after, afterTabs}
 use Rattle.fields.specs.Judged.{sameBytes, judgedDefaults, judgedJob}
 use Rattle.printing.specs.Printed.{pointLines, verdictPrints, judgedPrints, jobPrints}

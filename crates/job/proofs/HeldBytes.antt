@@ -9,8 +9,8 @@ use lib.ListN.{length, take}
 use lib.Seq.{take-take}
 use borrow.Author.Tests.{ltb-false}
 use Rattle.numerals.specs.NumberField.{isEmpty}
-use Rattle.fields.specs.declared.judging.DefaultsLine.{DefaultsLine}
-use Rattle.fields.specs.declared.judging.JobLine.{JobLine}
+use Rattle.fields.specs.declared.DefaultsLine.{DefaultsLine}
+use Rattle.fields.specs.declared.JobLine.{JobLine}
 use Rattle.fields.specs.Parts.{lineFeed, picked}
 use Rattle.fields.specs.Judged.{judgedDefaults, judgedJob}
 use Rattle.fields.proofs.NumbersJudged.{defaults-misshapen}

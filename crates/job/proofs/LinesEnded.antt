@@ -14,8 +14,8 @@ use Rattle.numerals.specs.Writing.{Wrote}
 use Rattle.numerals.proofs.Joining.{wrote-nothing, wrote-same}
 use Rattle.fields.specs.Parts.{picked}
 use Rattle.fields.specs.Judged.{isHeader, judgedDefaults, judgedJob}
-use Rattle.fields.specs.declared.judging.DefaultsLine.{DefaultsLine}
-use Rattle.fields.specs.declared.judging.JobLine.{JobLine}
+use Rattle.fields.specs.declared.DefaultsLine.{DefaultsLine}
+use Rattle.fields.specs.declared.JobLine.{JobLine}
 use Rattle.fields.proofs.PartsJudged.{job-small}
 use Rattle.printing.specs.Printed.{noLine, judgedPrints, jobPrints, verdictPlan, verdictTable, JobPrinted}
 use Rattle.job.specs.declared.Awaited.{Awaited}

@@ -8,8 +8,8 @@ use lib.Dec.{eqb}
 use lib.ListN.{length, take, drop, length-append, length-take, length-drop}
 use Rattle.folding.proofs.Rules.{picked as picks}
 use Rattle.numerals.specs.NumberField.{isEmpty, numberUpTo}
-use Rattle.fields.specs.declared.judging.DefaultsLine.{DefaultsLine}
-use Rattle.fields.specs.declared.judging.JobLine.{JobLine}
+use Rattle.fields.specs.declared.DefaultsLine.{DefaultsLine}
+use Rattle.fields.specs.declared.JobLine.{JobLine}
 use Rattle.fields.specs.Parts.{lineFeed, field, before, picked}
 use Rattle.fields.specs.Judged.{isHeader, isMisshapen, largestWord, mostPoints, badNumber, emptyField, defaultsAt, judgedDefaults, jobRefused, judgedJob}
 use Rattle.fields.proofs.PartsJudged.{job-small}

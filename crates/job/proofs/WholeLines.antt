@@ -16,7 +16,7 @@ use Rattle.folding.specs.Folding.{fold}
 use Rattle.folding.specs.Layout.{planWords}
 use Rattle.folding.proofs.Compiled.{compiled-length}
 use Rattle.fields.specs.Parts.{picked}
-use Rattle.fields.specs.declared.judging.JobLine.{JobLine}
+use Rattle.fields.specs.declared.JobLine.{JobLine}
 use Rattle.fields.specs.Judged.{isHeader, judgedDefaults, judgedJob}
 use Rattle.fields.proofs.PartsJudged.{job-small}
 use Rattle.printing.specs.Printed.{verdictPlan, verdictTable}

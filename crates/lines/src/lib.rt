@@ -47,7 +47,7 @@ fn end_header(line: &[u8], out: &mut [u8]) -> LineDone
     ensures { λ r. ⌜ r .progress ≡ progressBy Header 0 0 (now (line .entry)) ⌝ }
     ensures { λ r. ⌜ Wrote (now (out .entry)) 0 (linePrints theHeader (now (line .entry))) (r .wrote) (now (out .exit)) ⌝ }
 {
-    if fields::is_header(line) {
+    if judging::is_header(line) {
         return LineDone {
             progress: Progress {
                 awaited: Awaited::Defaults,
@@ -73,7 +73,7 @@ fn end_defaults(line: &[u8], defaults: &mut [u8], out: &mut [u8]) -> LineDone
     ensures { λ r. ⌜ Wrote (now (out .entry)) 0 (linePrints theDefaults (now (line .entry))) (r .wrote) (now (out .exit)) ⌝ }
     ensures { λ _. ⌜ now (defaults .exit) ≡ defaultsAfter theDefaults (now (line .entry)) (now (defaults .entry)) ⌝ }
 {
-    let judged = fields::judge_defaults(line);
+    let judged = judging::judge_defaults(line);
     if !judged.ok {
         let wrote = writing::write_no_line(out, 0, 11, judged.place);
         return LineDone {
@@ -109,7 +109,7 @@ fn end_job<'a>(
     ensures { λ _. ⌜ now (plan .exit) ≡ planAfterLine (aJob (now (defaults .entry)) n) (now (line .entry)) (now (plan .entry)) ⌝ }
     ensures { λ _. ⌜ now (table .exit) ≡ tableAfterLine (aJob (now (defaults .entry)) n) (now (line .entry)) (now (table .entry)) ⌝ }
 {
-    let judged = fields::judge_job(line, defaults);
+    let judged = judging::judge_job(line, defaults);
     let formula = fields::pick(line, defaults, 1);
     printer::print_job(
         n,

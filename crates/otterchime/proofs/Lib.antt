@@ -1,9 +1,3 @@
--- The promises of the library, for whoever reads them first: Demands, then the starred table and x*x-x^2+7 on any grid. The others serve them.
-pub mod Bridges
-pub mod Demands
-pub mod PlanRows
-pub mod Expectations
-pub mod StarredTable
-pub mod AnyGrid
+-- Uniqueness of the exports, and the words of signed numbers.
 pub mod Uniqueness
 mod SignedWords

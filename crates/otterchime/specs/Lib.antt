@@ -1,4 +1,2 @@
--- What the contracts of `otterchime` cite: how the answers of the crates below are laid out in lent words. And document 01's starred cases as a table.
+-- What the contracts of `otterchime` cite: how the answers of the crates below are laid out in lent words.
 pub mod Answers
-pub mod Starred
-pub mod Demanded

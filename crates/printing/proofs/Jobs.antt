@@ -21,7 +21,7 @@ use Rattle.compile.specs.declared.CompileAnswer.{CompileAnswer}
 use Rattle.compile.specs.Compiling.{Compiling, too-short, refused, accepted}
 use Rattle.numerals.specs.Writing.{Wrote}
 use Rattle.numerals.proofs.Joining.{wrote-same}
-use Rattle.fields.specs.declared.judging.JobLine.{JobLine}
+use Rattle.fields.specs.declared.JobLine.{JobLine}
 use Rattle.printing.specs.Printed.{noLine, jobLine, pointLines, directValues, planPrints, verdictPrints, judgedPrints}
 use Rattle.printing.specs.Printed.{verdictPlan, verdictTable, JobPrinted}
 use Rattle.printing.proofs.DirectValues.{accepted-sound, accepted-values}

@@ -22,7 +22,7 @@ use Rattle.folding.proofs.FoldShape.{accepted-rows}
 use Rattle.numerals.specs.Decimal.{decimal}
 use Rattle.numerals.proofs.Digits.{word-digits}
 use Rattle.fields.specs.Parts.{tab, lineFeed}
-use Rattle.fields.specs.declared.judging.JobLine.{JobLine}
+use Rattle.fields.specs.declared.JobLine.{JobLine}
 use Rattle.printing.specs.Printed.{threeNumbers, noLine, jobLine, pointLine, pointLines, verdictPrints, judgedPrints}
 use Rattle.printing.proofs.AllPoints.{cost-most}
 use Rattle.printing.proofs.DirectValues.{direct-fits, accepted-sound, accepted-values}

@@ -4,7 +4,7 @@ use mathlib.Core.List.{List}
 use Prim.Native.Nat.{ℕ}
 use Rattle.word.proofs.Unique.{both-are}
 use Rattle.numerals.specs.Writing.{Wrote}
-use Rattle.fields.specs.declared.judging.JobLine.{JobLine}
+use Rattle.fields.specs.declared.JobLine.{JobLine}
 use Rattle.printing.specs.Printed.{JobPrinted}
 
 pub wrote-unique : {l s m k : List ℕ} {at r q : ℕ} → Wrote l at s r m → Wrote l at s q k → (r ≡ q) × (m ≡ k)

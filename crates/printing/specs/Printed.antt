@@ -15,7 +15,7 @@ use Rattle.numerals.specs.Decimal.{decimal}
 use Rattle.numerals.specs.Writing.{Wrote}
 use Rattle.fields.specs.Parts.{tab, lineFeed, picked}
 use Rattle.fields.specs.Judged.{judgedJob}
-use Rattle.fields.specs.declared.judging.JobLine.{JobLine}
+use Rattle.fields.specs.declared.JobLine.{JobLine}
 
 -- Three numbers, each behind a tab, and the end of the line.
 abbrev pub threeNumbers : ℕ → ℕ → ℕ → List ℕ

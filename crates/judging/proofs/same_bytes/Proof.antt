@@ -5,10 +5,10 @@ use native.Mathlib.Omega.{arith}
 use lib.ListN.{length, getD, drop, drop-of-length-le}
 use borrow.Author.Tests.{eq-eqb, ne-eqb}
 use borrow.Author.Needs.{needs}
 use Rattle.fields.specs.Judged.{sameBytes}
 use Rattle.fields.proofs.PartsJudged.{same-next, same-differ}
-use Rattle.fields.proofs.judging.same_bytes.Statement.{statement}
-use Rattle.fields.proofs.judging.same_bytes.Tie as tie
+use Rattle.judging.proofs.same_bytes.Statement.{statement}
+use Rattle.judging.proofs.same_bytes.Tie as tie
 
 abbrev Inv-loop : tie.InvT-loop
 Inv-loop bytes others i₀ i = (i ≤ length bytes) × (sameBytes bytes others ≡ sameBytes (drop i bytes) (drop i others))

@@ -2,9 +2,9 @@
 use mathlib.Core.Path.{sym, _∙_}
 use native.Mathlib.Omega.{arith}
 use borrow.Author.Needs.{needs}
 use Rattle.fields.proofs.NumbersJudged.{defaults-misshapen, defaults-empty, defaults-numbers}
-use Rattle.fields.proofs.judging.judge_defaults.Statement.{statement}
-use Rattle.fields.proofs.judging.judge_defaults.Tie as tie
+use Rattle.judging.proofs.judge_defaults.Statement.{statement}
+use Rattle.judging.proofs.judge_defaults.Tie as tie
 
 is-misshapen-requires : tie.Need-is-misshapen-requires
 is-misshapen-requires c κs = search needs

@@ -4,11 +4,11 @@ use Prim.Native.Nat.{_-_, _≤_}
 use native.Mathlib.Omega.{arith}
 use lib.ListN.{length}
 use borrow.Author.Needs.{needs}
 use Rattle.fields.specs.Parts.{field}
 use Rattle.fields.proofs.PartsFound.{empty-none, empty-some}
 use Rattle.fields.proofs.PartsJudged.{NoneEmpty, none-yet, none-more, empty-found, empty-nowhere}
-use Rattle.fields.proofs.judging.empty_field.Statement.{statement}
-use Rattle.fields.proofs.judging.empty_field.Tie as tie
+use Rattle.judging.proofs.empty_field.Statement.{statement}
+use Rattle.judging.proofs.empty_field.Tie as tie
 
 abbrev Inv-loop : tie.InvT-loop
 Inv-loop line n₀ n = (1 ≤ n) × (n ≤ 5) × NoneEmpty line n

@@ -2,9 +2,9 @@
 use mathlib.Core.Path.{_∙_}
 use borrow.Author.Tests.{not-true, not-false}
 use borrow.Author.Needs.{needs}
 use Rattle.fields.proofs.NumbersJudged.{start-bad, step-bad, count-bad, none-bad}
-use Rattle.fields.proofs.judging.judge_numbers.Statement.{statement}
-use Rattle.fields.proofs.judging.judge_numbers.Tie as tie
+use Rattle.judging.proofs.judge_numbers.Statement.{statement}
+use Rattle.judging.proofs.judge_numbers.Tie as tie
 
 number-up-to-requires : tie.Need-number-up-to-requires
 number-up-to-requires c κs = search needs

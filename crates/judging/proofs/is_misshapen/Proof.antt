@@ -3,8 +3,8 @@ use native.Mathlib.Omega.{arith}
 use lib.ListN.{length}
 use borrow.Author.Tests.{lt-ltb, le-ltb}
 use borrow.Author.Needs.{needs}
-use Rattle.fields.proofs.judging.is_misshapen.Statement.{statement}
-use Rattle.fields.proofs.judging.is_misshapen.Tie as tie
+use Rattle.judging.proofs.is_misshapen.Statement.{statement}
+use Rattle.judging.proofs.is_misshapen.Tie as tie
 
 returns : tie.Need-returns
 returns c = rw (lt-ltb 4096 (length (c .before .before .args .line .now)) (omega arith))

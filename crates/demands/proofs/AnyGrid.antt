@@ -25,9 +25,9 @@ use Rattle.folding.specs.Layout.{rowsFrom}
 use Rattle.folding.proofs.Rules.{picked}
 use Rattle.folding.proofs.FoldShape.{accepted-formed}
 use Rattle.folding.proofs.Equality.{equal-folds}
-use Rattle.otterchime.specs.Starred as Starred
-use Rattle.otterchime.specs.Starred.{FoldsSo}
-use Rattle.otterchime.proofs.Expectations.{folds-so}
+use Rattle.demands.specs.Starred as Starred
+use Rattle.demands.specs.Starred.{FoldsSo}
+use Rattle.demands.proofs.Expectations.{folds-so}
 
 -- ---- the text
 abbrev pub sevenText : List ℕ

@@ -19,9 +19,9 @@ use Rattle.plan.specs.Points.{shiftedRow}
 use Rattle.folding.specs.Folded.{Folded}
 use Rattle.folding.specs.Folding.{foldSum, foldMinus, foldDifference, foldProduct, foldPower, foldRaise, fold}
 use Rattle.folding.specs.Layout.{rowCount, rowsFrom}
-use Rattle.otterchime.specs.Starred.{Expected, refusal, folds, fills, Case, starred, caseAt, SaysOf, Says}
-use Rattle.otterchime.proofs.PlanRows.{shiftedRows, pointsByRows}
-use Rattle.otterchime.proofs.Expectations.{refused-so, folds-so, fills-so}
+use Rattle.demands.specs.Starred.{Expected, refusal, folds, fills, Case, starred, caseAt, SaysOf, Says}
+use Rattle.demands.proofs.PlanRows.{shiftedRows, pointsByRows}
+use Rattle.demands.proofs.Expectations.{refused-so, folds-so, fills-so}
 
 -- ---- what the definitions make of a case, put as its expectation is put
 -- The folded tree and the rows of its plan, unfolded all the way: named on an `unfolding` line, they compute.

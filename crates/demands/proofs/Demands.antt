@@ -60,8 +60,8 @@ use Rattle.job.proofs.Adding.{adds-up}
 use Rattle.job.specs.Runs.{Runs}
 use Rattle.job.proofs.GoingOn.{every-input-runs}
 use Rattle.job.specs.Runs.{Roomy}
-use Rattle.otterchime.specs.Demanded.{noChain, Allowed, valueOf, Answers}
-use Rattle.otterchime.proofs.Bridges as Bridges
+use Rattle.demands.specs.Demanded.{noChain, Allowed, valueOf, Answers}
+use Rattle.demands.proofs.Bridges as Bridges
 
 -- ======== Demand 1: "Formulas, job lines, plans and lent tables may hold anything at all. The library answers or refuses, with the number and
 -- place that document 01 fixes, at the first check that applies. A refused call changes nothing it was lent."

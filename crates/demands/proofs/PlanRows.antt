@@ -15,7 +15,7 @@ use Rattle.plan.proofs.Keeping.{rows-shifted, past-rows}
 use Rattle.folding.specs.Folded.{Folded}
 use Rattle.folding.specs.Layout.{rowCount, rowsFrom, wordsOf, planWords}
 use Rattle.folding.proofs.ReadBack.{rows-of, length-tree, afterRows, words-back, rows-back}
-use Rattle.otterchime.specs.Starred.{planOf}
+use Rattle.demands.specs.Starred.{planOf}
 
 -- ---- any plan
 -- The points for that budget and room.

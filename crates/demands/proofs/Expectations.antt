@@ -22,8 +22,8 @@ use Rattle.folding.proofs.Compiled.{compiled-accepted, compiled-value}
 use Rattle.compile.specs.declared.CompileAnswer.{CompileAnswer}
 use Rattle.compile.specs.Compiling.{Compiling, refused, accepted}
 use Rattle.compile.proofs.Promise.{compiling-unique}
-use Rattle.otterchime.specs.Starred.{planOf, Compiles, RefusedSo, FoldsSo, FillsSo}
-use Rattle.otterchime.proofs.PlanRows.{shiftedRows, pointsByRows, points-known, plan-by-rows, left-by-rows}
+use Rattle.demands.specs.Starred.{planOf, Compiles, RefusedSo, FoldsSo, FillsSo}
+use Rattle.demands.proofs.PlanRows.{shiftedRows, pointsByRows, points-known, plan-by-rows, left-by-rows}
 
 module _ (s : List ℕ) (start step : ℕ) where
   compiles-only : {answer : CompileAnswer} {left : List ℕ → List ℕ}

@@ -1,9 +1,9 @@
 -- `judge_job` judges the line's own shape, then the numbers that are picked.
 use mathlib.Core.Path.{sym, _∙_}
 use borrow.Author.Needs.{needs}
 use Rattle.fields.proofs.NumbersJudged.{job-misshapen, job-numbers}
-use Rattle.fields.proofs.judging.judge_job.Statement.{statement}
-use Rattle.fields.proofs.judging.judge_job.Tie as tie
+use Rattle.judging.proofs.judge_job.Statement.{statement}
+use Rattle.judging.proofs.judge_job.Tie as tie
 
 is-misshapen-requires : tie.Need-is-misshapen-requires
 is-misshapen-requires c κs = search needs

@@ -1,29 +1,16 @@
 // What is judged of a header line, a defaults line and a job line.
-// Where fields begin and end, and whose field is taken, is in the crate's root.
-use crate::count_fields;
-use crate::field;
-use crate::pick;
+// Where fields begin and end, and whose field is taken, is in `fields`; what a judged line prints is in the crates above.
+use fields::DefaultsLine;
+use fields::JobLine;
+use fields::count_fields;
+use fields::field;
+use fields::pick;
 ghost use mathlib.Core.Path.{_≡_};
 ghost use Rattle.fields.specs.Judged.{sameBytes, isHeader, isMisshapen, emptyField, jobRefused, judgedDefaults, judgedNumbers, judgedJob};
 
 const MOST_POINTS: u64 = 4096;
 
 const LONGEST_LINE: usize = 4096;
-
-// Refused 11 at a place, or taken.
-pub struct DefaultsLine {
-    pub ok: bool,
-    pub place: u64,
-}
-
-// Refused 11 at a place, or taken with the numbers of its fields.
-pub struct JobLine {
-    pub ok: bool,
-    pub place: u64,
-    pub start: u64,
-    pub step: u64,
-    pub count: u64,
-}
 
 // The same bytes.
 fn same_bytes<'a>(bytes: &'a [u8], others: &'a [u8]) -> bool
