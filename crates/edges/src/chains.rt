@@ -93,7 +93,7 @@ fn operand(token: &[u8]) -> ChainAnswer {
     let list = words::list(token);
     let mut elements = list.words;
     let mut length = std::num::wrapping_sub_usize(list.count, 1);
-    match text::byte_at(token, 0) {
+    match digits::byte_at(token, 0) {
         b'm' => {
             elements = M;
             length = text::number(token, 0) as usize;
@@ -124,7 +124,7 @@ fn step(s: Stack, token: &[u8]) -> Stack {
     let k = second.length;
     let g = top.elements;
     let l = top.length;
-    match text::byte_at(token, 0) {
+    match digits::byte_at(token, 0) {
         b'+' => placed(s, arithmetic::sum(f, k, g, l), 2),
         b'-' => placed(s, arithmetic::difference(f, k, g, l), 2),
         b'*' => placed(s, arithmetic::product(f, k, g, l), 2),

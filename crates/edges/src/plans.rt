@@ -131,7 +131,7 @@ fn compile_on(formula: &[u8], start: u64, step: u64, held: usize, plan: &mut [u6
 // budget of 15, which is 999 where it is left out. =x^3 compiles a formula, and g5,2:x^3 does on a grid with start 5 and step 2.
 fn step(token: &[u8], lent: usize, plan: &mut [u64], table: &mut [u64]) -> usize {
     let held = words::at_most(lent, plan.len());
-    match text::byte_at(token, 0) {
+    match digits::byte_at(token, 0) {
         b'#' => {
             return text::number(token, 0) as usize;
         }

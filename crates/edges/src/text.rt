@@ -1,7 +1,12 @@
 // Parts of a text between marks, and decimal words.
 // What a part stands for is up to the modules above.
-ghost use Prim.Native.Nat.{_≤_, _<_};
-ghost use lib.ListN.{length};
+ghost use mathlib.Core.Path.{_≡_};
+ghost use mathlib.Core.Bool.{cond, _&&_};
+ghost use mathlib.Core.List.{[]};
+ghost use Prim.Native.Nat.{_+_, _-_, _≤_, _<_};
+ghost use lib.Dec.{leb};
+ghost use lib.ListN.{length, take, drop};
+ghost use Rattle.fields.specs.Parts.{before, after};
 
 // Where a part of a text ends, and where the next one begins; the same place where no mark ends the part.
 pub struct Ends {
@@ -12,55 +17,49 @@ pub struct Ends {
 // Cuts off the part that begins at `at`, up to a mark or the text's end.
 pub fn cut(text: &[u8], at: usize, mark: u8) -> Ends
     requires { ⌜ at < length (now text) ⌝ }
+    ensures { λ r. ⌜ r .end ≡ at + length (before mark (drop at (now (text .entry)))) ⌝ }
     ensures { λ r. ⌜ (at < r .after) × (r .after ≤ length (now (text .entry))) ⌝ }
 {
-    let mut i = at;
-    while i < text.len() {
-        if text[i] == mark {
-            return Ends {
-                end: i,
-                after: i + 1,
-            };
-        }
-        i += 1;
+    let end = fields::find(text, at, mark);
+    if end < text.len() {
+        return Ends {
+            end,
+            after: end + 1,
+        };
     }
-    Ends { end: i, after: i }
+    Ends { end, after: end }
 }
 
 // The bytes from a up to e; none where there are no such bytes.
-pub fn part(text: &[u8], a: usize, e: usize) -> &[u8] {
-    if a <= e {
-        if e <= text.len() {
-            return &text[a..e];
-        }
+pub fn part(text: &[u8], a: usize, e: usize) -> &[u8]
+    ensures { λ r. ⌜ now r ≡ cond (leb a e && leb e (length (now (text .entry)))) (take (e - a) (drop a (now (text .entry)))) [] ⌝ }
+{
+    if e < a {
+        return &text[0..0];
     }
-    &text[..0]
+    if text.len() < e {
+        return &text[0..0];
+    }
+    &text[a..e]
 }
 
 // What stands before the first mark, or all of the text.
-pub fn before(text: &[u8], mark: u8) -> &[u8] {
-    if text.len() == 0 {
-        return text;
-    }
-    let ends = cut(text, 0, mark);
-    part(text, 0, ends.end)
+pub fn before(text: &[u8], mark: u8) -> &[u8]
+    ensures { λ r. ⌜ now r ≡ before mark (now (text .entry)) ⌝ }
+{
+    let end = fields::find(text, 0, mark);
+    &text[0..end]
 }
 
 // What stands after the first mark.
-pub fn after(text: &[u8], mark: u8) -> &[u8] {
-    if text.len() == 0 {
-        return text;
+pub fn after(text: &[u8], mark: u8) -> &[u8]
+    ensures { λ r. ⌜ now r ≡ after mark (now (text .entry)) ⌝ }
+{
+    let end = fields::find(text, 0, mark);
+    if end < text.len() {
+        return &text[end + 1..];
     }
-    let ends = cut(text, 0, mark);
-    part(text, ends.after, text.len())
-}
-
-// The byte at a place, or 0 past the end.
-pub fn byte_at(text: &[u8], at: usize) -> u8 {
-    if at < text.len() {
-        return text[at];
-    }
-    0
+    &text[end..]
 }
 
 // The word of the digits, modulo 2^64, other bytes being passed over; its negative after a minus sign, and r less it after a ~.
@@ -74,7 +73,7 @@ pub fn number(text: &[u8], r: u64) -> u64 {
         }
         i += 1;
     }
-    match byte_at(text, 0) {
+    match digits::byte_at(text, 0) {
         b'-' => std::num::wrapping_sub_u64(0, value),
         b'~' => std::num::wrapping_sub_u64(r, value),
         _ => value,

@@ -1,7 +1,9 @@
 // Lent words: reading and putting them, lists of words parted by commas, and what is tested and summed of them.
 // What the words stand for is up to the modules above.
 use crate::text;
+ghost use mathlib.Core.Path.{_≡_};
 ghost use Prim.Native.Nat.{_≤_};
+ghost use lib.ListN.{getD};
 
 // Stands in every word past the listed ones: no call on chains may read it, and a filling takes it for its budget.
 pub const UNREAD: u64 = 999;
@@ -23,7 +25,9 @@ pub fn at_most(count: usize, most: usize) -> usize
 }
 
 // The word at a place, or 0 past the end.
-pub fn word_at(words: &[u64], at: usize) -> u64 {
+pub fn word_at(words: &[u64], at: usize) -> u64
+    ensures { λ r. ⌜ r ≡ getD (now (words .entry)) at 0 ⌝ }
+{
     if at < words.len() {
         return words[at];
     }

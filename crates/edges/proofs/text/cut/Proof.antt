@@ -1,51 +1,25 @@
--- `cut` answers an end from `at` on and a next place after `at`, at most the text's length. Invariant: the index reached is one too.
-use Prim.Native.Nat.{_-_, _≤_}
-use lib.ListN.{length}
+-- `cut` answers where the first mark from `at` on stands, and a next place after `at`, at most the text's length.
+use mathlib.Core.Path.{_≡_}
+use native.Mathlib.Omega.{arith}
 use borrow.Author.Needs.{needs}
+use Rattle.fields.proofs.PartsFound.{found-inside}
 use Rattle.edges.proofs.text.cut.Statement.{statement}
 use Rattle.edges.proofs.text.cut.Tie as tie
 
-abbrev Inv-loop : tie.InvT-loop
-Inv-loop text at mark i₀ i = (at ≤ i) × (i ≤ length text)
+find-requires : tie.Need-find-requires
+find-requires c κs = search needs
 
-abbrev μ-loop : tie.MeasureT-loop
-μ-loop text at mark i₀ i = length text - i
+add-t7 : tie.Need-add-t7
+add-t7 c = search needs
 
-loop-holds : tie.Need-loop-holds Inv-loop μ-loop
-loop-holds c = search needs
+returns : tie.Need-returns
+returns c = (c .before .find .ensures, (omega (arith, c .before .find .ensures), omega arith))
 
-shared-slice-read-if1 : tie.Need-shared-slice-read-if1 Inv-loop μ-loop
-shared-slice-read-if1 c = search needs
-
-add-t9 : tie.Need-add-t9 Inv-loop μ-loop
-add-t9 c = search needs
-
-returns : tie.Need-returns Inv-loop μ-loop
-returns c = search needs
-
-add-i : tie.Need-add-i Inv-loop μ-loop
-add-i c = search needs
-
-loop-less : tie.Need-loop-less Inv-loop μ-loop
-loop-less c = search needs
-
-loop-again : tie.Need-loop-again Inv-loop μ-loop
-loop-again c = search needs
-
-returns-2 : tie.Need-returns-2 Inv-loop μ-loop
-returns-2 c = search needs
+returns-2 : tie.Need-returns-2
+returns-2 c =
+    let args = c .before .before .before .args in
+    let inside = found-inside (args .mark) (args .text .now) (args .at) (omega arith) in
+    (c .before .find .ensures, (omega arith, omega (arith, c .before .find .ensures, inside)))
 
 pub cut-spec : {M : Type 1} → statement M
-cut-spec =
-    tie.close
-    (tie.spec
-    Inv-loop
-    μ-loop
-    loop-holds
-    shared-slice-read-if1
-    add-t9
-    returns
-    add-i
-    loop-less
-    loop-again
-    returns-2)
+cut-spec = tie.close (tie.spec find-requires add-t7 returns returns-2)
