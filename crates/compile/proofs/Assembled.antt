@@ -11,15 +11,15 @@ use Rattle.formula.specs.Words.{treeWords}
 use Rattle.formula.specs.Refusals as Refusals
 use Rattle.formula.specs.Refusals.{Accepted, Reading}
 use Rattle.formula.specs.declared.ReadAnswer.{ReadAnswer}
-use Rattle.formula.proofs.Answers.{accepted-fits}
-use Rattle.formula.proofs.Judging.{fault-number}
-use Rattle.formula.proofs.Written.{length-tree-words}
-use Rattle.folding.specs.Folded.{Folded}
-use Rattle.folding.specs.Folding.{fold}
-use Rattle.folding.specs.Layout.{rowCount, rowsFrom, wordsOf, planWords}
-use Rattle.folding.proofs.FoldShape.{accepted-foldable, foldable-part, fold-formed}
-use Rattle.folding.proofs.ReadBack.{length-plan}
-use Rattle.compile.specs.Compiling.{Compiling, refused, accepted}
+use Rattle.formula_scan.proofs.Answers.{accepted-fits}
+use Rattle.formula_scan.proofs.Judging.{fault-number}
+use Rattle.formula_scan.proofs.Written.{length-tree-words}
+use Rattle.fold.specs.Folded.{Folded}
+use Rattle.fold.specs.Folding.{fold}
+use Rattle.fold.specs.Layout.{rowCount, rowsFrom, wordsOf, planWords}
+use Rattle.fold.proofs.FoldShape.{accepted-foldable, foldable-part, fold-formed}
+use Rattle.fold.proofs.ReadBack.{length-plan}
+use Rattle.fold.specs.Compiling.{Compiling, refused, accepted}
 use Rattle.compile.specs.Machine.{Compilable, Written, FoldedAt}
 use Rattle.compile.proofs.Finishing.{part-part}
 

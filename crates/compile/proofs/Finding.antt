@@ -9,11 +9,11 @@ use Rattle.plan.specs.Row.{Row, kind, wordA}
 use Rattle.plan.specs.Plan as Plan
 use Rattle.plan.proofs.RowLaws.{word-at}
 use Rattle.plan.proofs.SoundLaws.{kind-at}
-use Rattle.folding.specs.Folded.{Folded, constant, sumChain, productChain, sumRow, differenceRow, productRow, minusRow, powerRow, raiseRow}
-use Rattle.folding.specs.Layout.{rowCount, rowWords, rootRow, rowsFrom}
-use Rattle.folding.proofs.ReadBack.{rows-of, some-rows}
-use Rattle.rows.proofs.Stood.{row-stands}
-use Rattle.operands.specs.Operands.{One}
+use Rattle.fold.specs.Folded.{Folded, constant, sumChain, productChain, sumRow, differenceRow, productRow, minusRow, powerRow, raiseRow}
+use Rattle.fold.specs.Layout.{rowCount, rowWords, rootRow, rowsFrom}
+use Rattle.fold.proofs.ReadBack.{rows-of, some-rows}
+use Rattle.fold_rows.proofs.Stood.{row-stands}
+use Rattle.fold_operands.specs.Operands.{One}
 
 module _ (p : List ℕ) (n : ℕ) where
   -- Rows that stand from row n on, one by one.

@@ -11,13 +11,13 @@ use borrow.Author.Tests.{eqb-true, eqb-false}
 use Rattle.chain.specs.Chain.{trimmed, withoutTrailing, withLast, words}
 use Rattle.formula.specs.Tree as Tree
 use Rattle.formula.specs.Tree.{Tree}
-use Rattle.folding.specs.Folded.{Folded, constant, ofSum, trimmedSum}
-use Rattle.folding.specs.Folding.{fold, foldMinus, foldPower}
-use Rattle.folding.specs.Layout.{rowCount}
-use Rattle.folding.specs.Shape.{WellFormed}
-use Rattle.folding.proofs.FoldShape.{minus-rows, power-rows, sum-rows, difference-rows, product-rows, raise-rows}
-use Rattle.rows.specs.Standing.{rowStart, placed}
-use Rattle.operands.specs.Operands.{Operand, Operands, One, Two, Left, Folds, FoldsBoth}
+use Rattle.fold.specs.Folded.{Folded, constant, ofSum, trimmedSum}
+use Rattle.fold.specs.Folding.{fold, foldMinus, foldPower}
+use Rattle.fold.specs.Layout.{rowCount}
+use Rattle.fold.specs.Shape.{WellFormed}
+use Rattle.fold.proofs.FoldShape.{minus-rows, power-rows, sum-rows, difference-rows, product-rows, raise-rows}
+use Rattle.fold_rows.specs.Standing.{rowStart, placed}
+use Rattle.fold_operands.specs.Operands.{Operand, Operands, One, Two, Left, Folds, FoldsBoth}
 use Rattle.compile.specs.Machine.{Finishes, Stack, Ends, FirstRow, Compilable, Working, foldBoth}
 use Rattle.compile.proofs.Finishing.{top-part, nodes-left, node-kind}
 use Rattle.compile.proofs.Finishing.{view-number, view-variable, view-minus, view-power, view-sum, view-difference, view-product, view-raise}

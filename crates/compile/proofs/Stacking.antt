@@ -7,14 +7,14 @@ use lib.ListN.{length, take, drop}
 use lib.Seq.{take-take}
 use Rattle.plan.proofs.RowLaws.{slice-part}
 use Rattle.formula.specs.Tree.{Tree}
-use Rattle.folding.specs.Folded.{Folded}
-use Rattle.folding.specs.Folding.{fold}
-use Rattle.folding.specs.Layout.{rowCount, rowsFrom, wordsOf}
-use Rattle.folding.specs.Shape.{WellFormed}
-use Rattle.folding.proofs.FoldShape.{fold-rows}
-use Rattle.rows.specs.Standing.{rowStart, Stands}
-use Rattle.rows.proofs.Stood.{length-words, words-later, placed-stands, placed-before}
-use Rattle.operands.specs.Operands.{Operand, Operands, Left}
+use Rattle.fold.specs.Folded.{Folded}
+use Rattle.fold.specs.Folding.{fold}
+use Rattle.fold.specs.Layout.{rowCount, rowsFrom, wordsOf}
+use Rattle.fold.specs.Shape.{WellFormed}
+use Rattle.fold.proofs.FoldShape.{fold-rows}
+use Rattle.fold_rows.specs.Standing.{rowStart, Stands}
+use Rattle.fold_rows.proofs.Stood.{length-words, words-later, placed-stands, placed-before}
+use Rattle.fold_operands.specs.Operands.{Operand, Operands, Left}
 use Rattle.compile.specs.Machine.{Stack, Ends, FirstRow}
 use Rattle.compile.proofs.Finishing.{sumNodes}
 

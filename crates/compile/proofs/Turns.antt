@@ -8,7 +8,7 @@ use lib.ListN.{length, getD, take, drop, replicate}
 use lib.Seq.{take-nil, drop-drop, take-take, take-at, getD-drop, getD-take}
 use Rattle.formula.specs.Tree.{Tree, nodes}
 use Rattle.formula.specs.Words.{nodeWords}
-use Rattle.formula.proofs.Written.{nodes-words}
+use Rattle.formula_scan.proofs.Written.{nodes-words}
 use Rattle.compile.specs.Machine.{Finishes, Stack, Compilable, Working, AtNode, FoldsNode, Written, FoldedAt}
 use Rattle.compile.proofs.Finishing.{finishes-all, nodes-left, none-left}
 use Rattle.compile.proofs.Stacking.{stack-rows, stack-done}

@@ -9,12 +9,12 @@ use Rattle.formula.specs.Tree as Tree
 use Rattle.formula.specs.Tree.{Tree, nodes}
 use Rattle.formula.specs.Refusals.{Part}
 use Rattle.formula.specs.Words.{treeWords}
-use Rattle.folding.specs.Folded.{Folded}
-use Rattle.folding.specs.Folding.{fold, foldSum, foldDifference, foldProduct, foldRaise}
-use Rattle.folding.specs.Layout.{rowCount, rowsFrom, wordsOf}
-use Rattle.folding.specs.Shape.{WellFormed}
-use Rattle.rows.specs.Standing.{rowStart}
-use Rattle.operands.specs.Operands.{Operand, One}
+use Rattle.fold.specs.Folded.{Folded}
+use Rattle.fold.specs.Folding.{fold, foldSum, foldDifference, foldProduct, foldRaise}
+use Rattle.fold.specs.Layout.{rowCount, rowsFrom, wordsOf}
+use Rattle.fold.specs.Shape.{WellFormed}
+use Rattle.fold_rows.specs.Standing.{rowStart}
+use Rattle.fold_operands.specs.Operands.{Operand, One}
 
 -- `Finishes done words t`: with the trees `done` finished, the last one first, the node words left make the tree t. "two words a node in postfix
 -- order, left operand first": kind and word.

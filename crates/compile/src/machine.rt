@@ -4,13 +4,13 @@ ghost use mathlib.Core.Path.{_≡_};
 ghost use mathlib.Core.List.{[], _∷_, _++_};
 ghost use Prim.Native.Nat.{_≤_, _<_};
 ghost use lib.ListN.{length, drop};
-ghost use Rattle.folding.specs.Folded.{trimmedSum};
-ghost use Rattle.rows.specs.Standing.{placed};
-ghost use Rattle.operands.specs.Operands.{Two, FoldsBoth};
+ghost use Rattle.fold.specs.Folded.{trimmedSum};
+ghost use Rattle.fold_rows.specs.Standing.{placed};
+ghost use Rattle.fold_operands.specs.Operands.{Two, FoldsBoth};
 ghost use Rattle.compile.specs.Machine.{foldBoth, Ends, FirstRow, AtNode, FoldsNode, Compilable, Written, FoldedAt};
 ghost use Rattle.formula.specs.Tree.{Tree};
-ghost use Rattle.folding.specs.Folding.{fold};
-ghost use Rattle.folding.specs.Layout.{planWords};
+ghost use Rattle.fold.specs.Folding.{fold};
+ghost use Rattle.fold.specs.Layout.{planWords};
 
 // The chain of two elements, trimmed, in row r: a number and 0, or x.
 fn put_pair(plan: &mut [u64], r: usize, first: u64, second: u64)
@@ -18,12 +18,12 @@ fn put_pair(plan: &mut [u64], r: usize, first: u64, second: u64)
     requires { ⌜ r < 128 ⌝ }
     ensures { λ _. ⌜ now (plan .exit) ≡ placed (now (plan .entry)) r (trimmedSum (first ∷ second ∷ [])) ⌝ }
 {
-    let mut f = arrays::zeros();
+    let mut f = chain_arrays::zeros();
     f[0] = first;
     f[1] = second;
-    let t = arithmetic::trim(f, 1);
+    let t = chain_calls::trim(f, 1);
     let elements = t.elements;
-    rows::put_chain(plan, r, 1, t.length, elements);
+    fold_rows::put_chain(plan, r, 1, t.length, elements);
 }
 
 // The operator of two operands: + - * or a raise.

@@ -14,17 +14,17 @@ use Rattle.formula.specs.Bytes.{bytes}
 use Rattle.formula.specs.Tree.{Tree, number, variable, sum, difference, product, literalPower}
 use Rattle.formula.specs.Refusals.{Accepted}
 use Rattle.formula.specs.Value.{valueFor, directValue}
-use Rattle.formula.proofs.Answers.{accepted-base}
-use Rattle.formula.proofs.Closed.{judges}
-use Rattle.formula.proofs.Verdicts.{verdict-accepted}
+use Rattle.formula_scan.proofs.Answers.{accepted-base}
+use Rattle.formula_scan.proofs.Closed.{judges}
+use Rattle.formula_scan.proofs.Verdicts.{verdict-accepted}
 use Rattle.plan.specs.Plan.{costOf}
 use Rattle.plan.specs.Row.{kindFacts}
-use Rattle.folding.specs.Folded.{Folded, constant, ofSum, trimmedSum}
-use Rattle.folding.specs.Folding.{isSum, constants, foldSum, foldDifference, foldProduct, foldPower, fold}
-use Rattle.folding.specs.Layout.{rowsFrom}
-use Rattle.folding.proofs.Rules.{picked}
-use Rattle.folding.proofs.FoldShape.{accepted-formed}
-use Rattle.folding.proofs.Equality.{equal-folds}
+use Rattle.fold.specs.Folded.{Folded, constant, ofSum, trimmedSum}
+use Rattle.fold.specs.Folding.{isSum, constants, foldSum, foldDifference, foldProduct, foldPower, fold}
+use Rattle.fold.specs.Layout.{rowsFrom}
+use Rattle.fold.proofs.Rules.{picked}
+use Rattle.fold.proofs.FoldShape.{accepted-formed}
+use Rattle.fold.proofs.Equality.{equal-folds}
 use Rattle.demands.specs.Starred as Starred
 use Rattle.demands.specs.Starred.{FoldsSo}
 use Rattle.demands.proofs.Expectations.{folds-so}

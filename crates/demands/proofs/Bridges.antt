@@ -15,12 +15,12 @@ use Rattle.formula.specs.Tree.{Tree, number, literalPower, nodes}
 use Rattle.formula.specs.Grammar.{Formula}
 use Rattle.formula.specs.Value.{directValue}
 use Rattle.formula.specs.Refusals.{TooDeep, StopsAt, Part, Fault, too-long, too-deep, not-grammar, number-over, exponent-number-over, exponent-over, too-many, x-in-base, even-base, Refused, Accepted}
-use Rattle.formula.specs.Readers.{Judged, refuses, accepts}
-use Rattle.formula.specs.Verdict.{Verdict}
-use Rattle.formula.proofs.Judging.{judged-stop, fault-number}
-use Rattle.formula.proofs.GrammarScan.{unambiguous, stops-only, decided}
-use Rattle.formula.proofs.Parity.{OddBases}
-use Rattle.formula.proofs.Verdicts.{Right, right-refused, right-accepted, verdict-right}
+use Rattle.formula_scan.specs.Readers.{Judged, refuses, accepts}
+use Rattle.formula_scan.specs.Verdict.{Verdict}
+use Rattle.formula_scan.proofs.Judging.{judged-stop, fault-number}
+use Rattle.formula_scan.proofs.GrammarScan.{unambiguous, stops-only, decided}
+use Rattle.formula_scan.proofs.Parity.{OddBases}
+use Rattle.formula_scan.proofs.Verdicts.{Right, right-refused, right-accepted, verdict-right}
 use Rattle.chain.specs.Chain.{rest, words, withLast, withoutTrailing, trimmed, row}
 use Rattle.chain.specs.SumChain as SumChain
 use Rattle.chain.specs.SumChain.{sumAt}
@@ -33,13 +33,13 @@ use Rattle.chain.proofs.SumLaws.{sum-shift, value-sum, value-words, value-diffe
 use Rattle.chain.proofs.Shifting.{length-shift}
 use Rattle.chain.proofs.Calls.{length-joined, length-product}
 use Rattle.chain.proofs.CoefficientLaws.{value-coefficients, row-coefficients}
-use Rattle.folding.specs.Folding.{fold}
-use Rattle.folding.specs.Layout.{planWords}
-use Rattle.folding.proofs.ReadBack.{take-row}
-use Rattle.folding.proofs.Compiled as Compiled
-use Rattle.folding.specs.OneChain.{OneSum}
-use Rattle.compile.specs.declared.CompileAnswer.{CompileAnswer}
-use Rattle.compile.specs.Compiling.{Compiling, too-short, refused, accepted}
+use Rattle.fold.specs.Folding.{fold}
+use Rattle.fold.specs.Layout.{planWords}
+use Rattle.fold.proofs.ReadBack.{take-row}
+use Rattle.fold.proofs.Compiled as Compiled
+use Rattle.fold.specs.OneChain.{OneSum}
+use Rattle.fold.specs.declared.CompileAnswer.{CompileAnswer}
+use Rattle.fold.specs.Compiling.{Compiling, too-short, refused, accepted}
 use Rattle.plan.specs.Plan as Plan
 use Rattle.plan.specs.Plan.{refusal}
 use Rattle.plan.specs.Points.{rootValue}

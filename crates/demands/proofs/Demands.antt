@@ -17,8 +17,8 @@ use Rattle.formula.specs.Tree.{Tree}
 use Rattle.formula.specs.Grammar.{Formula}
 use Rattle.formula.specs.Value.{directValue}
 use Rattle.formula.specs.Refusals.{count, TooDeep, StopsAt, Fault, too-long, too-deep, not-grammar, Refused, Accepted}
-use Rattle.formula.proofs.Answers.{accepted-fits, accepted-base}
-use Rattle.formula.proofs.GrammarScan.{unambiguous, decided}
+use Rattle.formula_scan.proofs.Answers.{accepted-fits, accepted-base}
+use Rattle.formula_scan.proofs.GrammarScan.{unambiguous, decided}
 use Rattle.chain.specs.declared.ChainAnswer.{ChainAnswer}
 use Rattle.chain.specs.declared.ValueAnswer.{ValueAnswer}
 use Rattle.chain.specs.Chain as Chain
@@ -39,27 +39,27 @@ use Rattle.plan.specs.Filling.{pointCost, pointsFor, planAfter, filled, fillRef
 use Rattle.plan.proofs.Accepting.{refused-alters-nothing}
 use Rattle.plan.proofs.Sharing as Sharing
 use Rattle.plan.specs.Calls.{Call, planLeft, pointsOf, written}
-use Rattle.folding.specs.Folding.{fold}
-use Rattle.folding.specs.Layout.{planWords}
-use Rattle.folding.proofs.Compiled as Compiled
-use Rattle.folding.specs.OneChain.{OneSum}
-use Rattle.compile.specs.declared.CompileAnswer.{CompileAnswer}
-use Rattle.compile.specs.Compiling.{Compiling, too-short, refused, accepted}
-use Rattle.compile.proofs.Promise.{compiling-unique}
+use Rattle.fold.specs.Folding.{fold}
+use Rattle.fold.specs.Layout.{planWords}
+use Rattle.fold.proofs.Compiled as Compiled
+use Rattle.fold.specs.OneChain.{OneSum}
+use Rattle.fold.specs.declared.CompileAnswer.{CompileAnswer}
+use Rattle.fold.specs.Compiling.{Compiling, too-short, refused, accepted}
+use Rattle.fold.proofs.Promise.{compiling-unique}
 use Rattle.probe.specs.declared.ProbeAnswer.{ProbeAnswer}
 use Rattle.probe.specs.declared.Verdict.the-variants.{NoVerdict}
 use Rattle.probe.specs.Probe as ProbeSpec
 use Rattle.probe.specs.Probe.{half, offset, verdict, verdictWord, ahead, behind, within, probeAnswer}
 use Rattle.probe.proofs.Laws as Probe
-use Rattle.fields.specs.Parts.{lineFeed}
-use Rattle.job.specs.declared.Progress.{Progress}
-use Rattle.job.specs.Run.{run}
-use Rattle.job.specs.Steps.{started, Buffers, ready, stepped, finished}
-use Rattle.job.proofs.Readiness.{refused-step, refused-end}
-use Rattle.job.proofs.Adding.{adds-up}
-use Rattle.job.specs.Runs.{Runs}
-use Rattle.job.proofs.GoingOn.{every-input-runs}
-use Rattle.job.specs.Runs.{Roomy}
+use Rattle.table.specs.Parts.{lineFeed}
+use Rattle.table_progress.specs.declared.Progress.{Progress}
+use Rattle.table_progress.specs.Run.{run}
+use Rattle.table_progress.specs.Steps.{started, Buffers, ready, stepped, finished}
+use Rattle.table_progress.proofs.Readiness.{refused-step, refused-end}
+use Rattle.table_progress.proofs.Adding.{adds-up}
+use Rattle.table_progress.specs.Runs.{Runs}
+use Rattle.table_progress.proofs.GoingOn.{every-input-runs}
+use Rattle.table_progress.specs.Runs.{Roomy}
 use Rattle.demands.specs.Demanded.{noChain, Allowed, valueOf, Answers}
 use Rattle.demands.proofs.Bridges as Bridges
 

@@ -14,14 +14,14 @@ use Rattle.plan.specs.Plan as Plan
 use Rattle.plan.specs.Filling.{pointsFor, planAfter, pointValues, Filled, filled, fill, costAnswer}
 use Rattle.plan.proofs.Accepting.{cost-accepted, fill-accepted}
 use Rattle.plan.proofs.Sharing.{point-at}
-use Rattle.folding.specs.Folded.{Folded}
-use Rattle.folding.specs.Folding.{fold}
-use Rattle.folding.specs.Layout.{rowsFrom, planWords}
-use Rattle.folding.proofs.ReadBack.{rows-back}
-use Rattle.folding.proofs.Compiled.{compiled-accepted, compiled-value}
-use Rattle.compile.specs.declared.CompileAnswer.{CompileAnswer}
-use Rattle.compile.specs.Compiling.{Compiling, refused, accepted}
-use Rattle.compile.proofs.Promise.{compiling-unique}
+use Rattle.fold.specs.Folded.{Folded}
+use Rattle.fold.specs.Folding.{fold}
+use Rattle.fold.specs.Layout.{rowsFrom, planWords}
+use Rattle.fold.proofs.ReadBack.{rows-back}
+use Rattle.fold.proofs.Compiled.{compiled-accepted, compiled-value}
+use Rattle.fold.specs.declared.CompileAnswer.{CompileAnswer}
+use Rattle.fold.specs.Compiling.{Compiling, refused, accepted}
+use Rattle.fold.proofs.Promise.{compiling-unique}
 use Rattle.demands.specs.Starred.{planOf, Compiles, RefusedSo, FoldsSo, FillsSo}
 use Rattle.demands.proofs.PlanRows.{shiftedRows, pointsByRows, points-known, plan-by-rows, left-by-rows}
 

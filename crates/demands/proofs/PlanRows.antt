@@ -12,9 +12,9 @@ use Rattle.plan.specs.Plan as Plan
 use Rattle.plan.specs.Points.{rootValue, shiftedRow, shiftedFrom, shiftedPlan}
 use Rattle.plan.specs.Filling.{planAfter, pointValues}
 use Rattle.plan.proofs.Keeping.{rows-shifted, past-rows}
-use Rattle.folding.specs.Folded.{Folded}
-use Rattle.folding.specs.Layout.{rowCount, rowsFrom, wordsOf, planWords}
-use Rattle.folding.proofs.ReadBack.{rows-of, length-tree, afterRows, words-back, rows-back}
+use Rattle.fold.specs.Folded.{Folded}
+use Rattle.fold.specs.Layout.{rowCount, rowsFrom, wordsOf, planWords}
+use Rattle.fold.proofs.ReadBack.{rows-of, length-tree, afterRows, words-back, rows-back}
 use Rattle.demands.specs.Starred.{planOf}
 
 -- ---- any plan

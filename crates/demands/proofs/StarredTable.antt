@@ -10,15 +10,15 @@ use Rattle.chain.specs.SumChain.{times, product, power}
 use Rattle.chain.specs.Coefficients.{tabulated}
 use Rattle.formula.specs.Tree.{Tree}
 use Rattle.formula.specs.Value.{valueFor, directValue}
-use Rattle.formula.specs.Verdict.{Verdict, refused, accepted, verdict}
-use Rattle.formula.proofs.Closed.{judges}
-use Rattle.formula.proofs.Verdicts.{verdict-refused, verdict-accepted}
+use Rattle.formula_scan.specs.Verdict.{Verdict, refused, accepted, verdict}
+use Rattle.formula_scan.proofs.Closed.{judges}
+use Rattle.formula_scan.proofs.Verdicts.{verdict-refused, verdict-accepted}
 use Rattle.plan.specs.Row.{Row, kindFacts}
 use Rattle.plan.specs.Plan.{costOf}
 use Rattle.plan.specs.Points.{shiftedRow}
-use Rattle.folding.specs.Folded.{Folded}
-use Rattle.folding.specs.Folding.{foldSum, foldMinus, foldDifference, foldProduct, foldPower, foldRaise, fold}
-use Rattle.folding.specs.Layout.{rowCount, rowsFrom}
+use Rattle.fold.specs.Folded.{Folded}
+use Rattle.fold.specs.Folding.{foldSum, foldMinus, foldDifference, foldProduct, foldPower, foldRaise, fold}
+use Rattle.fold.specs.Layout.{rowCount, rowsFrom}
 use Rattle.demands.specs.Starred.{Expected, refusal, folds, fills, Case, starred, caseAt, SaysOf, Says}
 use Rattle.demands.proofs.PlanRows.{shiftedRows, pointsByRows}
 use Rattle.demands.proofs.Expectations.{refused-so, folds-so, fills-so}

@@ -13,10 +13,10 @@ use Rattle.formula.specs.Value.{directValue}
 use Rattle.plan.specs.Row.{Row}
 use Rattle.plan.specs.Plan as Plan
 use Rattle.plan.specs.Filling.{pointValues, fill, costAnswer}
-use Rattle.folding.specs.Folding.{fold}
-use Rattle.folding.specs.Layout.{rowWords, wordsOf, planWords}
-use Rattle.compile.specs.declared.CompileAnswer.{CompileAnswer}
-use Rattle.compile.specs.Compiling.{Compiling}
+use Rattle.fold.specs.Folding.{fold}
+use Rattle.fold.specs.Layout.{rowWords, wordsOf, planWords}
+use Rattle.fold.specs.declared.CompileAnswer.{CompileAnswer}
+use Rattle.fold.specs.Compiling.{Compiling}
 
 -- ---- a line of the table
 -- What is expected of a text on a grid.

@@ -48,7 +48,7 @@ fn read(formula: &[u8], count: usize, tree: &mut [u64])
     requires { ⌜ count ≤ length (now tree) ⌝ }
 {
     words::paint(tree);
-    let answer = reading::read(formula, &mut tree[0..count]);
+    let answer = formula_read::read(formula, &mut tree[0..count]);
     print::answer(print::TAB, answer.number, answer.place);
     print_tree(answer.number, tree);
     print::label(print::LINE);

@@ -42,7 +42,7 @@ fn is_same(once: &[u64], parts: &[u64]) -> bool {
     true
 }
 
-fn print_plan(answer: compile::CompileAnswer, plan: &[u64], cost: u64) {
+fn print_plan(answer: fold::CompileAnswer, plan: &[u64], cost: u64) {
     print::answer(print::TAB, answer.number, answer.place);
     print::label(print::ROWS);
     print::number(words::word_at(plan, 0));

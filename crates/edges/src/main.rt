@@ -33,10 +33,10 @@ fn case(section: u8, line: &[u8], expanded: &[u8]) {
 // Runs a case, unless the line is empty, a comment or the name of a section. Answers the section of the next line.
 fn turn(section: u8, line: &[u8]) -> u8 {
     let mut bytes = [0u8; 7000];
-    match digits::byte_at(line, 0) {
+    match formula_digits::byte_at(line, 0) {
         0 => section,
         b';' => section,
-        b'[' => digits::byte_at(line, 1),
+        b'[' => formula_digits::byte_at(line, 1),
         _ => {
             let length = notation::expand(line, &mut bytes);
             case(section, line, text::part(&bytes, 0, length));

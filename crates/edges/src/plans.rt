@@ -9,14 +9,14 @@ ghost use lib.ListN.{length};
 const PLAN_WORDS: usize = 2561;
 
 pub fn cost(plan: &[u64]) -> plan::CostAnswer {
-    filling::cost(plan)
+    plan_fill::cost(plan)
 }
 
 pub fn filled(plan: &mut [u64], table: &mut [u64], budget: u64) -> plan::FillAnswer {
-    filling::fill(plan, table, budget)
+    plan_fill::fill(plan, table, budget)
 }
 
-pub fn compiled(formula: &[u8], start: u64, step: u64, plan: &mut [u64]) -> compile::CompileAnswer {
+pub fn compiled(formula: &[u8], start: u64, step: u64, plan: &mut [u64]) -> fold::CompileAnswer {
     compile::compile(formula, start, step, plan)
 }
 
@@ -71,7 +71,7 @@ fn print_lent(table: &[u64], points: usize, plan: &[u64]) {
 
 // Asks everything of the lent words, and answers the points written.
 fn ask(plan: &mut [u64], table: &mut [u64], budget: u64) -> usize {
-    let sound = soundness::sound(plan);
+    let sound = plan_sound::sound(plan);
     let cost = cost(plan);
     let fill = filled(plan, table, budget);
     print::label(print::TAB);
@@ -131,7 +131,7 @@ fn compile_on(formula: &[u8], start: u64, step: u64, held: usize, plan: &mut [u6
 // budget of 15, which is 999 where it is left out. =x^3 compiles a formula, and g5,2:x^3 does on a grid with start 5 and step 2.
 fn step(token: &[u8], lent: usize, plan: &mut [u64], table: &mut [u64]) -> usize {
     let held = words::at_most(lent, plan.len());
-    match digits::byte_at(token, 0) {
+    match formula_digits::byte_at(token, 0) {
         b'#' => {
             return text::number(token, 0) as usize;
         }

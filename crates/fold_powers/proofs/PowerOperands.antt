@@ -17,16 +17,16 @@ use Rattle.chain.specs.ProductChain as ProductChain
 use Rattle.chain.specs.Answer.{answered, chain}
 use Rattle.plan.specs.Row.{kind, wordA, elements}
 use Rattle.plan.specs.Plan.{row}
-use Rattle.folding.specs.Folded as Folded
-use Rattle.folding.specs.Folded.{Folded, constant, powerRow, raiseRow, isSumChain, isProductChain, ofProduct, trimmedSum, trimmedProduct}
-use Rattle.folding.specs.Folding.{wordOf, lengthOf, foldPower, foldRaise}
-use Rattle.folding.specs.Layout.{rowWords}
-use Rattle.rows.specs.Standing.{rowStart, withRow, placed, filledWithOnes}
-use Rattle.rows.proofs.Stood.{kindOf, is-constant, no-constant, is-sum-chain, no-sum-chain, is-product-chain, no-product-chain, placed-again}
-use Rattle.operands.specs.Operands.{Operand, Folds, FoldsBoth}
-use Rattle.operands.proofs.OperandLaws.{Sum, one, several, sum-operand, operand-kind, operand-last}
-use Rattle.operands.proofs.OperandLaws.{operand-elements, operand-word, operand-chain, operand-taken}
-use Rattle.operands.proofs.Leaving.{left-as, sum-left, product-left, answer-put, power-row-left, raise-row-left}
+use Rattle.fold.specs.Folded as Folded
+use Rattle.fold.specs.Folded.{Folded, constant, powerRow, raiseRow, isSumChain, isProductChain, ofProduct, trimmedSum, trimmedProduct}
+use Rattle.fold.specs.Folding.{wordOf, lengthOf, foldPower, foldRaise}
+use Rattle.fold.specs.Layout.{rowWords}
+use Rattle.fold_rows.specs.Standing.{rowStart, withRow, placed, filledWithOnes}
+use Rattle.fold_rows.proofs.Stood.{kindOf, is-constant, no-constant, is-sum-chain, no-sum-chain, is-product-chain, no-product-chain, placed-again}
+use Rattle.fold_operands.specs.Operands.{Operand, Folds, FoldsBoth}
+use Rattle.fold_operands.proofs.OperandLaws.{Sum, one, several, sum-operand, operand-kind, operand-last}
+use Rattle.fold_operands.proofs.OperandLaws.{operand-elements, operand-word, operand-chain, operand-taken}
+use Rattle.fold_operands.proofs.Leaving.{left-as, sum-left, product-left, answer-put, power-row-left, raise-row-left}
 use Rattle.fold_powers.proofs.PowerChains.{powered, power-trimmed, raise-trimmed}
 
 -- ---- literal power: the rules, by the kind of the operand

@@ -1,14 +1,15 @@
 // Literal powers and raises of operands that stand at the top of a lent plan.
 // Which node is one of them is decided in `compile`; sums and products are in `fold_sums` and `fold_products`.
-use arrays::Operation;
-use arrays::word_by_word;
 use chain::ChainAnswer;
-use operands::append;
-use operands::first_element;
-use operands::kind;
-use operands::length_of;
-use operands::put_constant;
-use operands::put_sum;
+use chain_arrays::Operation;
+use chain_arrays::word_by_word;
+use fold_operands::append;
+use fold_operands::first_element;
+use fold_operands::kind;
+use fold_operands::length_of;
+use fold_operands::put_constant;
+use fold_operands::put_sum;
+use fold_rows::product_rows;
 ghost use mathlib.Core.Path.{_≡_};
 ghost use Prim.Native.Nat.{_+_, _-_, _*_, _≤_, _<_};
 ghost use lib.ListN.{length, take};
@@ -17,8 +18,8 @@ ghost use Rattle.plan.specs.Plan.{row};
 ghost use Rattle.chain.specs.Chain.{words, trimmed};
 ghost use Rattle.chain.specs.SumChain.{power};
 ghost use Rattle.chain.specs.Answer.{answered, chain};
-ghost use Rattle.folding.specs.Folding.{foldPower, foldRaise};
-ghost use Rattle.operands.specs.Operands.{One, Two, Folds, FoldsBoth};
+ghost use Rattle.fold.specs.Folding.{foldPower, foldRaise};
+ghost use Rattle.fold_operands.specs.Operands.{One, Two, Folds, FoldsBoth};
 
 // The chain f of length k to the n, trimmed.
 fn power_of(f: [u64; 17], k: usize, n: u64) -> ChainAnswer
@@ -26,11 +27,11 @@ fn power_of(f: [u64; 17], k: usize, n: u64) -> ChainAnswer
     requires { ⌜ k * n ≤ 16 ⌝ }
     ensures { λ r. ⌜ r ≡ answered (chain (trimmed 0 (words 64 (power (take (k + 1) f) n)))) ⌝ }
 {
-    let mut r = arithmetic::trim(f, k);
+    let mut r = chain_calls::trim(f, k);
     let mut i = 1;
     while i < n {
         let elements = r.elements;
-        let next = arithmetic::product(elements, r.length, f, k);
+        let next = chain_calls::product(elements, r.length, f, k);
         r = next;
         i += 1;
     }
@@ -50,7 +51,7 @@ fn fold_high_power(plan: &mut [u64], first: usize, end: usize, n: u64) -> usize
     let root = end - 1;
     let root_kind = kind(plan, root);
     let k = length_of(plan, root);
-    let f = rows::elements(plan, root);
+    let f = fold_rows::elements(plan, root);
     if root_kind == 2 {
         let powers = word_by_word(Operation::Power, product_rows::with_ones(f, k), [n; 17]);
         product_rows::put_product(plan, first, powers);
@@ -104,7 +105,7 @@ pub fn fold_raise(plan: &mut [u64], left: usize, middle: usize, end: usize) -> u
     if base == 0 {
         if exponent < 2 {
             let c = first_element(plan, base_root);
-            let f = rows::elements(plan, exponent_root);
+            let f = fold_rows::elements(plan, exponent_root);
             product_rows::put_product(plan, left, word_by_word(Operation::Power, [c; 17], f));
             return left + 1;
         }

@@ -1,12 +1,14 @@
 // Products of operands that stand at the top of a lent plan.
 // Which node is one of them is decided in `compile`; sums and powers are in `fold_sums` and `fold_powers`.
-use arrays::Operation;
-use operands::append;
-use operands::is_constant;
-use operands::kind;
-use operands::length_of;
-use operands::put_constant;
-use operands::put_sum;
+use chain_arrays::Operation;
+use fold_operands::append;
+use fold_operands::is_constant;
+use fold_operands::kind;
+use fold_operands::length_of;
+use fold_operands::put_constant;
+use fold_operands::put_sum;
+use fold_rows::moved_rows;
+use fold_rows::product_rows;
 ghost use mathlib.Core.Path.{_≡_};
 ghost use mathlib.Core.Bool.{_&&_, _||_};
 ghost use Prim.Native.Nat.{_+_, _≤_, _<_};
@@ -18,10 +20,10 @@ ghost use Rattle.chain.specs.ProductChain.{jointProduct};
 ghost use Rattle.chain.specs.Answer.{given};
 ghost use Rattle.plan.specs.Row.{kind, wordA, elements};
 ghost use Rattle.plan.specs.Plan.{row};
-ghost use Rattle.folding.specs.Folded.{trimmedSum, trimmedProduct};
-ghost use Rattle.folding.specs.Folding.{foldProduct};
-ghost use Rattle.rows.specs.Standing.{placed, filledWithOnes};
-ghost use Rattle.operands.specs.Operands.{Two, FoldsBoth};
+ghost use Rattle.fold.specs.Folded.{trimmedSum, trimmedProduct};
+ghost use Rattle.fold.specs.Folding.{foldProduct};
+ghost use Rattle.fold_rows.specs.Standing.{placed, filledWithOnes};
+ghost use Rattle.fold_operands.specs.Operands.{Two, FoldsBoth};
 
 // The product chain in row r, or a constant as its element 0, filled with ones.
 fn filled(plan: &[u64], r: usize) -> [u64; 17]
@@ -31,7 +33,7 @@ fn filled(plan: &[u64], r: usize) -> [u64; 17]
     ensures { λ f. ⌜ f ≡ filledWithOnes 17 (take (wordA (row (now (plan .entry)) r) + 1) (elements (row (now (plan .entry)) r))) ⌝ }
 {
     let length = length_of(plan, r);
-    product_rows::with_ones(rows::elements(plan, r), length)
+    product_rows::with_ones(fold_rows::elements(plan, r), length)
 }
 
 // One of the rows a and b is the constant 0.
@@ -121,11 +123,11 @@ fn put_product_of_sums(plan: &mut [u64], r: usize, a: usize, b: usize)
         (given (elements (row (now (plan .entry)) b)) (wordA (row (now (plan .entry)) b))))))
         ⌝ }
 {
-    let f = rows::elements(plan, a);
+    let f = fold_rows::elements(plan, a);
     let k = length_of(plan, a);
-    let g = rows::elements(plan, b);
+    let g = fold_rows::elements(plan, b);
     let l = length_of(plan, b);
-    put_sum(plan, r, arithmetic::product(f, k, g, l));
+    put_sum(plan, r, chain_calls::product(f, k, g, l));
 }
 
 // The product of the product chains in rows a and b, in row r.
@@ -148,7 +150,11 @@ fn put_product_of_products(plan: &mut [u64], r: usize, a: usize, b: usize)
 {
     let f = filled(plan, a);
     let g = filled(plan, b);
-    product_rows::put_product(plan, r, arrays::word_by_word(Operation::Product, f, g));
+    product_rows::put_product(
+        plan,
+        r,
+        chain_arrays::word_by_word(Operation::Product, f, g),
+    );
 }
 
 // Constants 1 and 0 first, then sum chains, then product chains; anything else stays a row.

@@ -6,8 +6,8 @@ use lib.Dec.{eqb}
 use Rattle.chain.specs.Chain.{words, trimmed}
 use Rattle.chain.specs.SumChain.{sum, difference}
 use Rattle.chain.specs.Answer.{Outcome, chain, unlessLong, given}
-use Rattle.folding.specs.Folded.{Folded, sumRow, differenceRow}
-use Rattle.folding.specs.Folding.{foldSum, foldDifference, foldMinus}
+use Rattle.fold.specs.Folded.{Folded, sumRow, differenceRow}
+use Rattle.fold.specs.Folding.{foldSum, foldDifference, foldMinus}
 
 -- The kinds of + and -.
 pub data SumOrDifference : ℕ → Type 0 where

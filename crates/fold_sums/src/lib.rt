@@ -3,12 +3,13 @@
 mod minus;
 
 use chain::ChainAnswer;
+use fold_operands::append;
+use fold_operands::is_constant;
+use fold_operands::kind;
+use fold_operands::length_of;
+use fold_operands::put_sum;
+use fold_rows::moved_rows;
 pub use minus::fold_minus;
-use operands::append;
-use operands::is_constant;
-use operands::kind;
-use operands::length_of;
-use operands::put_sum;
 ghost use mathlib.Core.Path.{_≡_};
 ghost use mathlib.Core.Bool.{_&&_};
 ghost use Prim.Native.Nat.{_≤_, _<_};
@@ -17,7 +18,7 @@ ghost use lib.ListN.{length};
 ghost use Rattle.chain.specs.Answer.{answered};
 ghost use Rattle.plan.specs.Row.{kind, wordA, elements};
 ghost use Rattle.plan.specs.Plan.{row};
-ghost use Rattle.operands.specs.Operands.{One, Two, Folds, FoldsBoth};
+ghost use Rattle.fold_operands.specs.Operands.{One, Two, Folds, FoldsBoth};
 ghost use Rattle.fold_sums.specs.ByKind.{SumOrDifference, foldSumOrDifference, bothOutcome, foldAlone};
 
 // Both rows are constants or sum chains: kinds 0 and 1.
@@ -41,14 +42,14 @@ fn chain_of_both(plan: &[u64], kind: u64, a: usize, b: usize) -> ChainAnswer
     ensures { λ r. ⌜ r ≡ answered (bothOutcome 64 kind (elements (row (now (plan .entry)) a)) (wordA (row (now (plan .entry)) a))
         (elements (row (now (plan .entry)) b)) (wordA (row (now (plan .entry)) b))) ⌝ }
 {
-    let f = rows::elements(plan, a);
+    let f = fold_rows::elements(plan, a);
     let k = length_of(plan, a);
-    let g = rows::elements(plan, b);
+    let g = fold_rows::elements(plan, b);
     let l = length_of(plan, b);
     if kind == 3 {
-        return arithmetic::sum(f, k, g, l);
+        return chain_calls::sum(f, k, g, l);
     }
-    arithmetic::difference(f, k, g, l)
+    chain_calls::difference(f, k, g, l)
 }
 
 // The operand alone, behind the constant 0: "0+A: A", "0-A: as minus A".

@@ -7,6 +7,3 @@ pub mod Grammar
 pub mod Value
 pub mod Words
 pub mod Refusals
-pub mod Scan
-pub mod Readers
-pub mod Verdict

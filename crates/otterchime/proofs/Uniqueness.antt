@@ -5,7 +5,7 @@ use Prim.Native.Nat.{ℕ}
 use Rattle.word.proofs.Unique.{both-are}
 use Rattle.chain.specs.Answer.{answered, trimOutcome, sumOutcome, differenceOutcome, productOutcome, shiftOutcome, coefficientsOutcome, valueAnswer}
 use Rattle.plan.specs.Filling.{fill, costAnswer, soundAnswer}
-use Rattle.compile.proofs.Promise.{compiling-unique}
+use Rattle.fold.proofs.Promise.{compiling-unique}
 use Rattle.probe.specs.Probe.{probeAnswer}
 use Rattle.otterchime.specs.Answers.{CompiledInto, compileWords, fillWords, costWords, soundWords, chainWords, valueWords, probeWords}
 

@@ -1,5 +1,5 @@
 // The chain calls of the door. A chain comes as 17 words f and its length k; words past the length are not read.
-// What a call answers is decided in `arithmetic` and `coefficients`; the calls on formulas, plans and readings are in the crate's root.
+// What a call answers is decided in `chain_calls` and `chain_coefficients`; the calls on formulas, plans and readings are in the crate's root.
 use chain::ChainAnswer;
 ghost use mathlib.Core.Path.{_≡_};
 ghost use Rattle.chain.specs.Answer.{answered, trimOutcome, sumOutcome, differenceOutcome, productOutcome, shiftOutcome, coefficientsOutcome, valueAnswer};
@@ -10,7 +10,7 @@ fn put(r: ChainAnswer, answer: &mut [u64; 20])
     ensures { λ _. ⌜ now (answer .exit) ≡ chainWords r ⌝ }
 {
     let elements = r.elements;
-    rows::write_row(answer, r.number, r.place, r.length as u64, elements);
+    fold_rows::write_row(answer, r.number, r.place, r.length as u64, elements);
 }
 
 // The chain without its trailing zeros.
@@ -18,7 +18,7 @@ fn put(r: ChainAnswer, answer: &mut [u64; 20])
 pub extern "C" fn otterchime_trim(f: &[u64; 17], k: u64, answer: &mut [u64; 20])
     ensures { λ _. ⌜ now (answer .exit) ≡ chainWords (answered (trimOutcome (now (f .entry)) k)) ⌝ }
 {
-    let r = arithmetic::trim(*f, k as usize);
+    let r = chain_calls::trim(*f, k as usize);
     put(r, answer);
 }
 
@@ -27,7 +27,7 @@ pub extern "C" fn otterchime_trim(f: &[u64; 17], k: u64, answer: &mut [u64; 20])
 pub extern "C" fn otterchime_shift(f: &[u64; 17], k: u64, answer: &mut [u64; 20])
     ensures { λ _. ⌜ now (answer .exit) ≡ chainWords (answered (shiftOutcome 64 (now (f .entry)) k)) ⌝ }
 {
-    let r = arithmetic::shift(*f, k as usize);
+    let r = chain_calls::shift(*f, k as usize);
     put(r, answer);
 }
 
@@ -36,7 +36,7 @@ pub extern "C" fn otterchime_shift(f: &[u64; 17], k: u64, answer: &mut [u64; 20]
 pub extern "C" fn otterchime_value(f: &[u64; 17], k: u64, answer: &mut [u64; 3])
     ensures { λ _. ⌜ now (answer .exit) ≡ valueWords (valueAnswer (now (f .entry)) k) ⌝ }
 {
-    let r = arithmetic::value(*f, k as usize);
+    let r = chain_calls::value(*f, k as usize);
     *answer = [r.number, r.place, r.word];
 }
 
@@ -51,7 +51,7 @@ pub extern "C" fn otterchime_sum(
 )
     ensures { λ _. ⌜ now (answer .exit) ≡ chainWords (answered (sumOutcome 64 (now (f .entry)) k (now (g .entry)) l)) ⌝ }
 {
-    let r = arithmetic::sum(*f, k as usize, *g, l as usize);
+    let r = chain_calls::sum(*f, k as usize, *g, l as usize);
     put(r, answer);
 }
 
@@ -66,7 +66,7 @@ pub extern "C" fn otterchime_difference(
 )
     ensures { λ _. ⌜ now (answer .exit) ≡ chainWords (answered (differenceOutcome 64 (now (f .entry)) k (now (g .entry)) l)) ⌝ }
 {
-    let r = arithmetic::difference(*f, k as usize, *g, l as usize);
+    let r = chain_calls::difference(*f, k as usize, *g, l as usize);
     put(r, answer);
 }
 
@@ -81,7 +81,7 @@ pub extern "C" fn otterchime_product(
 )
     ensures { λ _. ⌜ now (answer .exit) ≡ chainWords (answered (productOutcome 64 (now (f .entry)) k (now (g .entry)) l)) ⌝ }
 {
-    let r = arithmetic::product(*f, k as usize, *g, l as usize);
+    let r = chain_calls::product(*f, k as usize, *g, l as usize);
     put(r, answer);
 }
 
@@ -90,6 +90,6 @@ pub extern "C" fn otterchime_product(
 pub extern "C" fn otterchime_from_coefficients(coefficients: &[u64], answer: &mut [u64; 20])
     ensures { λ _. ⌜ now (answer .exit) ≡ chainWords (answered (coefficientsOutcome 64 (now (coefficients .entry)))) ⌝ }
 {
-    let r = coefficients::from_coefficients(coefficients);
+    let r = chain_coefficients::from_coefficients(coefficients);
     put(r, answer);
 }

@@ -1,5 +1,5 @@
 // What the calls on plans answer, and a line of the table of row kinds. What a plan is and means is in specs/, its laws in proofs/.
-// The calls are in `soundness` and `filling`, the work of a point in `points`; formulas live above.
+// The calls are in `plan_sound` and `plan_fill`, the work of a point in `plan_fill::points`; formulas live above.
 
 // What a row of a kind always costs, and how many operand rows it has.
 pub struct Kind {

@@ -1,9 +1,9 @@
 // The table printer: reads a job file from standard input and writes what it prints to standard output.
 // What a run prints is decided in `steps`; here bytes are read and written, and buffers are lent.
-use job::Progress;
-use job::Stepped;
 use libc::STDIN_FILENO;
 use libc::STDOUT_FILENO;
+use table_progress::Progress;
+use table_progress::Stepped;
 ghost use mathlib.Core.Path.{_≡_};
 ghost use mathlib.Core.Bool.{true};
 ghost use Prim.Native.Nat.{_+_, _≤_};
@@ -74,7 +74,7 @@ fn step(
     ensures { λ r. ⌜ r .used ≤ length (now (input .entry)) ⌝ }
     ensures { λ r. ⌜ (r .ok ≡ true → 1 ≤ length (now (input .entry)) → 1 ≤ r .used) ⌝ }
 {
-    steps::step(
+    table_steps::step(
         progress,
         input,
         line,
@@ -98,7 +98,7 @@ fn finish(
     requires { ⌜ filled ≤ length (now out) ⌝ }
     ensures { λ r. ⌜ filled + r .wrote ≤ length (now (out .exit)) ⌝ }
 {
-    steps::finish(progress, line, defaults, plan, table, &mut out[filled..])
+    table_steps::finish(progress, line, defaults, plan, table, &mut out[filled..])
 }
 
 // A step with room made for it.
@@ -197,7 +197,7 @@ fn run(
 ) {
     let mut going = Going {
         ok: true,
-        progress: steps::start(),
+        progress: table_steps::start(),
         used: 0,
         filled: 0,
     };

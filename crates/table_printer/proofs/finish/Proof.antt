@@ -1,7 +1,7 @@
 -- `finish` lends the rear of the output buffer to the end of a run, which writes no more than it is lent.
 use native.Mathlib.Omega.{arith}
 use borrow.Author.Needs.{needs}
-use Rattle.job.proofs.OutRoom.{end-within}
+use Rattle.table_progress.proofs.OutRoom.{end-within}
 use Rattle.table_printer.proofs.finish.Statement.{statement}
 use Rattle.table_printer.proofs.finish.Tie as tie
 

@@ -1,8 +1,8 @@
 -- `first_row` goes down from the operand's root. Invariant: row r is the root of a tree that begins where the operand does.
 use Prim.Native.Nat.{ℕ, _<_}
 use native.Mathlib.Omega.{arith}
-use Rattle.folding.proofs.ReadBack.{some-rows}
-use Rattle.operands.specs.Operands.{One}
+use Rattle.fold.proofs.ReadBack.{some-rows}
+use Rattle.fold_operands.specs.Operands.{One}
 use Rattle.compile.proofs.Finding.{Reached, reached-root, reached-next, reached-leaf}
 use Rattle.compile.proofs.machine.first_row.Statement.{statement}
 use Rattle.compile.proofs.machine.first_row.Tie as tie

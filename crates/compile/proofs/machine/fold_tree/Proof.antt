@@ -3,7 +3,7 @@ use mathlib.Core.Path.{ap, _∙_, subst}
 use Prim.Native.Nat.{_≤_}
 use native.Mathlib.Omega.{arith}
 use lib.ListN.{length, length-set}
-use Rattle.folding.specs.Folding.{fold}
+use Rattle.fold.specs.Folding.{fold}
 use Rattle.compile.proofs.Assembled.{assembled, whole-length}
 use borrow.Author.Needs.{needs}
 use Rattle.compile.proofs.machine.fold_tree.Statement.{statement}

@@ -1,0 +1,57 @@
+-- `write` writes one row and leaves every other word.
+use borrow.Author.Needs.{needs}
+use Rattle.fold_rows.proofs.RowWords.{row-put, length-whole}
+use Rattle.fold_rows.proofs.write.Statement.{statement}
+use Rattle.fold_rows.proofs.write.Tie as tie
+
+mul-at : tie.Need-mul-at
+mul-at c = search needs
+
+add-at : tie.Need-add-at
+add-at c = search needs
+
+add-write-row : tie.Need-add-write-row
+add-write-row c = search needs
+
+mul-write-row : tie.Need-mul-write-row
+mul-write-row c = search needs
+
+sub-write-row : tie.Need-sub-write-row
+sub-write-row c = search needs
+
+part-write-row-start : tie.Need-part-write-row-start
+part-write-row-start c = search needs
+
+part-write-row-end : tie.Need-part-write-row-end
+part-write-row-end c = search needs
+
+write-row-requires : tie.Need-write-row-requires
+write-row-requires c κs = search needs
+
+same-length : tie.Need-same-length
+same-length c = search needs
+
+returns : tie.Need-returns
+returns c =
+    let plan = c .before .before .before .before .before .args .plan .now in
+    let r = c .before .before .before .before .before .args .r in
+    let kind = c .before .before .before .before .before .args .kind in
+    let a = c .before .before .before .before .before .args .a in
+    let b = c .before .before .before .before .before .args .b in
+    let elements = c .before .before .before .before .before .args .elements in
+    row-put plan r (c .before .before .write-row .ensures) (length-whole kind a b elements (search needs))
+
+pub write-spec : {M : Type 1} → statement M
+write-spec =
+    tie.close
+    (tie.spec
+    mul-at
+    add-at
+    add-write-row
+    mul-write-row
+    sub-write-row
+    part-write-row-start
+    part-write-row-end
+    write-row-requires
+    same-length
+    returns)

@@ -1,0 +1,43 @@
+-- The answer to a text as one function: its refusal, or its tree. Nobody has to believe this page: proofs/Verdicts.antt shows that it
+-- says what Refusals.antt says.
+use mathlib.Core.Bool.{cond}
+use mathlib.Core.List.{List, [], _∷_}
+use Prim.Native.Nat.{ℕ, _+_, _/_, _%_}
+use lib.Dec.{eqb, ltb}
+use lib.ListN.{length}
+use Rattle.formula.specs.Bytes.{openBracket, closeBracket}
+use Rattle.formula.specs.Tree.{Tree}
+use Rattle.formula_scan.specs.Scan.{Outcome, reads, stops, scanned}
+use Rattle.formula_scan.specs.Readers.{noFault, code}
+
+-- A refusal's number and place, or the tree of an accepted text.
+pub data Verdict : Type 0 where
+  refused : (number place : ℕ) → Verdict
+  accepted : Tree → Verdict
+
+-- One more if the byte is the one that is counted.
+abbrev pub counting : ℕ → ℕ → ℕ → ℕ
+counting which byte n = cond (eqb byte which) (n + 1) n
+
+-- The first ( that opens more than 32, counted from `opened` and `closed` at place `at` on; the place of the end if there is none.
+unfoldable pub deepPlace : (opened closed at : ℕ) → List ℕ → ℕ
+deepPlace opened closed at [] = at
+deepPlace opened closed at (c ∷ s) =
+    cond (ltb (32 + counting closeBracket c closed) (counting openBracket c opened)) at
+    (deepPlace (counting openBracket c opened) (counting closeBracket c closed) (at + 1) s)
+
+-- 5 to 8, or none: a code has the number times 2,048 and the place.
+abbrev pub codeVerdict : Tree → ℕ → Verdict
+codeVerdict t c = cond (ltb c noFault) (refused (c / 2048) (c % 2048)) (accepted t)
+
+-- 4 to 8, or none, of what the scan makes of the text.
+unfoldable pub outcomeVerdict : Outcome → Verdict
+outcomeVerdict (stops p) = refused 4 p
+outcomeVerdict (reads t) = codeVerdict t (code t)
+
+-- 3 to 8, or none, of a text of that length with its first ( that is too deep at place p.
+abbrev pub shortVerdict : ℕ → ℕ → Outcome → Verdict
+shortVerdict size p o = cond (ltb p size) (refused 3 p) (outcomeVerdict o)
+
+unfoldable pub verdict : List ℕ → Verdict
+verdict s = cond (ltb 1024 (length s)) (refused 2 1024) (shortVerdict (length s) (deepPlace 0 0 0 s) (scanned s))
