@@ -5,6 +5,7 @@ use Prim.Native.Nat.{ℕ, _+_, _-_, _*_, _≤_, _<_}
 use native.Mathlib.Omega.{arith}
 use lib.ListN.{length, getD, length-append, List·getD-append}
 use lib.Seq.{getD-at}
+use Rattle.plan.specs.Measures.{rowStart}
 use Rattle.plan.specs.Row.{Row, kind, wordA}
 use Rattle.plan.specs.Plan as Plan
 use Rattle.plan.proofs.RowLaws.{word-at}
@@ -93,10 +94,10 @@ reached-root p first end (a, operand) = record {
 
 module _ (p : List ℕ) (first r : ℕ) (reached : Reached p first r) where
   -- An operator's row leads on to an earlier one.
-  pub reached-next : 2 < getD p (1 + 20 * r) 0 → (getD p (1 + 20 * r + 1) 0 < r) × Reached p first (getD p (1 + 20 * r + 1) 0)
+  pub reached-next : 2 < getD p (rowStart r) 0 → (getD p (rowStart r + 1) 0 < r) × Reached p first (getD p (rowStart r + 1) 0)
   reached-next high = go (root p first (reached .tree) r (reached .rows) (reached .last))
     where
-      go : Root p first r (reached .tree) → (getD p (1 + 20 * r + 1) 0 < r) × Reached p first (getD p (1 + 20 * r + 1) 0)
+      go : Root p first r (reached .tree) → (getD p (rowStart r + 1) 0 < r) × Reached p first (getD p (rowStart r + 1) 0)
       go (leaf low one) = absurd (omega (arith, high, low, kind-at p r))
       go (operator left more rows named fewer) = (
         omega (arith, named, fewer, reached .last, word-at p r 1 (omega arith)),
@@ -104,7 +105,7 @@ module _ (p : List ℕ) (first r : ℕ) (reached : Reached p first r) where
       )
 
   -- Any other row is the tree's only one.
-  pub reached-leaf : getD p (1 + 20 * r) 0 ≤ 2 → r ≡ first
+  pub reached-leaf : getD p (rowStart r) 0 ≤ 2 → r ≡ first
   reached-leaf low = go (root p first (reached .tree) r (reached .rows) (reached .last))
     where
       go : Root p first r (reached .tree) → r ≡ first

@@ -4,6 +4,7 @@ ghost use mathlib.Core.Path.{_≡_};
 ghost use mathlib.Core.List.{[], _∷_, _++_};
 ghost use Prim.Native.Nat.{_≤_, _<_};
 ghost use lib.ListN.{length, drop};
+ghost use Rattle.plan.specs.Measures.{planLength, mostRows};
 ghost use Rattle.fold.specs.Folded.{trimmedSum};
 ghost use Rattle.fold_rows.specs.Standing.{placed};
 ghost use Rattle.fold_operands.specs.Operands.{Two, FoldsBoth};
@@ -14,8 +15,8 @@ ghost use Rattle.fold.specs.Layout.{planWords};
 
 // The chain of two elements, trimmed, in row r: a number and 0, or x.
 fn put_pair(plan: &mut [u64], r: usize, first: u64, second: u64)
-    requires { ⌜ 2561 ≤ length (now plan) ⌝ }
-    requires { ⌜ r < 128 ⌝ }
+    requires { ⌜ planLength ≤ length (now plan) ⌝ }
+    requires { ⌜ r < mostRows ⌝ }
     ensures { λ _. ⌜ now (plan .exit) ≡ placed (now (plan .entry)) r (trimmedSum (first ∷ second ∷ [])) ⌝ }
 {
     let mut f = chain_arrays::zeros();
@@ -28,8 +29,8 @@ fn put_pair(plan: &mut [u64], r: usize, first: u64, second: u64)
 
 // The operator of two operands: + - * or a raise.
 fn fold_both(plan: &mut [u64], kind: u64, left: usize, middle: usize, end: usize) -> usize
-    requires { ⌜ 2561 ≤ length (now plan) ⌝ }
-    requires { ⌜ end < 128 ⌝ }
+    requires { ⌜ planLength ≤ length (now plan) ⌝ }
+    requires { ⌜ end < mostRows ⌝ }
     requires { ⌜ Two (now plan) left middle end ⌝ }
     ensures { λ r. ⌜ FoldsBoth (foldBoth kind) (now (plan .entry)) left middle end r (now (plan .exit)) ⌝ }
 {
@@ -43,8 +44,8 @@ fn fold_both(plan: &mut [u64], kind: u64, left: usize, middle: usize, end: usize
 
 // The first row of the operand that ends before row `end`: from its root down the left operands.
 fn first_row(plan: &[u64], end: usize) -> usize
-    requires { ⌜ 2561 ≤ length (now plan) ⌝ }
-    requires { ⌜ end ≤ 128 ⌝ }
+    requires { ⌜ planLength ≤ length (now plan) ⌝ }
+    requires { ⌜ end ≤ mostRows ⌝ }
     requires { ⌜ Ends (now plan) end ⌝ }
     ensures { λ r. ⌜ FirstRow (now (plan .entry)) end r ⌝ }
 {
@@ -57,7 +58,7 @@ fn first_row(plan: &[u64], end: usize) -> usize
 
 // One node: a number, x, or an operator on the operands that were finished last. Answers the row behind the last operand.
 fn fold_node(plan: &mut [u64], end: usize, kind: u64, word: u64, start: u64, step: u64) -> usize
-    requires { ⌜ 2561 ≤ length (now plan) ⌝ }
+    requires { ⌜ planLength ≤ length (now plan) ⌝ }
     requires { ⌜ AtNode start step (now plan) end kind word ⌝ }
     ensures { λ r. ⌜ FoldsNode start step (now (plan .entry)) end kind word (now (plan .exit)) r ⌝ }
 {
@@ -82,7 +83,7 @@ fn fold_node(plan: &mut [u64], end: usize, kind: u64, word: u64, start: u64, ste
 
 // All nodes of the tree whose words stand at the end of the plan. Answers the row behind the folded tree.
 fn fold_nodes(plan: &mut [u64], start: u64, step: u64) -> usize
-    requires { ⌜ 2561 ≤ length (now plan) ⌝ }
+    requires { ⌜ planLength ≤ length (now plan) ⌝ }
     requires { ⌜ ((t : Tree) × Compilable start step t × Written (now plan) t) ⌝ }
     ensures { λ r. ⌜ ((t : Tree) → Compilable start step t → Written (now (plan .entry)) t → FoldedAt start step (now (plan .entry)) t (now (plan .exit)) r) ⌝ }
 {
@@ -101,10 +102,10 @@ fn fold_nodes(plan: &mut [u64], start: u64, step: u64) -> usize
 
 // The plan of the folded tree, in all of the plan's own words.
 pub fn fold_tree(plan: &mut [u64], start: u64, step: u64)
-    requires { ⌜ 2561 ≤ length (now plan) ⌝ }
+    requires { ⌜ planLength ≤ length (now plan) ⌝ }
     requires { ⌜ ((t : Tree) × Compilable start step t × Written (now plan) t) ⌝ }
     ensures { λ _. ⌜ ((t : Tree) → Compilable start step t → Written (now (plan .entry)) t
-        → now (plan .exit) ≡ planWords (fold 64 start step t) ++ drop 2561 (now (plan .entry))) ⌝ }
+        → now (plan .exit) ≡ planWords (fold 64 start step t) ++ drop planLength (now (plan .entry))) ⌝ }
 {
     let rows = fold_nodes(plan, start, step);
     plan[0] = rows as u64;

@@ -12,6 +12,7 @@ use lib.ListN.{length, getD, take, drop}
 use lib.IntN.{pos, negℤ}
 use lib.Signed.{_<ℤ_, _≤ℤ_}
 use borrow.Author.Tests.{lt-ltb, le-ltb}
+use Rattle.plan.specs.Measures.{planLength}
 use Rattle.word.specs.Word as Word
 use Rattle.formula.specs.Tree.{Tree}
 use Rattle.formula.specs.Grammar.{Formula}
@@ -89,17 +90,17 @@ compile-answers = Bridges.some-answer
 
 module _ {s : List ℕ} {start step : ℕ} {lent : List ℕ} {r : CompileAnswer} {q : List ℕ} (call : Compiling 64 s start step lent r q) where
   -- "1: plan shorter than 2,561 words", ahead of whatever is wrong with the text.
-  pub compile-short : length lent < 2561 → r ≡ record { number = 1; place = 0 }
+  pub compile-short : length lent < planLength → r ≡ record { number = 1; place = 0 }
   compile-short h = compiling-unique call (too-short h) .0
 
   -- "the first number that applies": where some of 2 to 8 apply to the text, the answer is one that does, at its leftmost place, and no
   -- smaller number applies.
-  pub compile-first : 2561 ≤ length lent → {n p : ℕ} → Fault 64 s n p → Refused 64 s (r .number) (r .place)
+  pub compile-first : planLength ≤ length lent → {n p : ℕ} → Fault 64 s n p → Refused 64 s (r .number) (r .place)
   compile-first whole {n} {p} fault =
       Bridges.first-fault call whole (λ nought. let (t, A) = Bridges.some-tree call nought in A .faultless n p fault)
 
   -- "An accepted call answers number 0, place 0": where none applies, the call is accepted.
-  pub compile-accepts : 2561 ≤ length lent → ((n p : ℕ) → Fault 64 s n p → ⊥) → r ≡ record { number = 0; place = 0 }
+  pub compile-accepts : planLength ≤ length lent → ((n p : ℕ) → Fault 64 s n p → ⊥) → r ≡ record { number = 0; place = 0 }
   compile-accepts whole none = go (decided s)
     where
       go : ((t : Tree) × Formula s t) ⊎ ((p : ℕ) × StopsAt s p) → r ≡ record { number = 0; place = 0 }
@@ -112,25 +113,25 @@ module _ {s : List ℕ} {start step : ℕ} {lent : List ℕ} {r : CompileAnswer}
 
 -- ---- fill, cost and sound, whatever plan and table hold. "1: plan shorter than 2,561 words", ahead of 9. `fillRefused` is "0 points and 0
 -- spent", with table and plan as they were.
-pub plan-short : (p table : List ℕ) (budget : ℕ) → length p < 2561
+pub plan-short : (p table : List ℕ) (budget : ℕ) → length p < planLength
     → (fill 64 p table budget ≡ fillRefused 1 p table)
     × (costAnswer p ≡ record { number = 1; place = 0; cost = 0 }) × (soundAnswer p ≡ record { number = 1; place = 0 })
 unfolding fill
-plan-short p table budget short = rw (lt-ltb (length p) 2561 short) (refl, refl, refl)
+plan-short p table budget short = rw (lt-ltb (length p) planLength short) (refl, refl, refl)
 
 -- "9: plan not sound (after 1)".
-pub plan-unsound : (p table : List ℕ) (budget : ℕ) → 2561 ≤ length p → Plan.sound p ≡ false
+pub plan-unsound : (p table : List ℕ) (budget : ℕ) → planLength ≤ length p → Plan.sound p ≡ false
     → (fill 64 p table budget ≡ fillRefused 9 p table)
     × (costAnswer p ≡ record { number = 9; place = 0; cost = 0 }) × (soundAnswer p ≡ record { number = 9; place = 0 })
 unfolding fill
-plan-unsound p table budget whole unsound = rw (le-ltb (length p) 2561 whole, unsound) (refl, refl, refl)
+plan-unsound p table budget whole unsound = rw (le-ltb (length p) planLength whole, unsound) (refl, refl, refl)
 
 -- Otherwise the call is accepted: `filled` has the points, the budget spent, and all words of table and plan, by 01's filling rule.
-pub plan-sound : (p table : List ℕ) (budget : ℕ) → 2561 ≤ length p → Plan.sound p ≡ true
+pub plan-sound : (p table : List ℕ) (budget : ℕ) → planLength ≤ length p → Plan.sound p ≡ true
     → (fill 64 p table budget ≡ filled 64 (pointsFor p (length table) budget) p table)
     × (costAnswer p ≡ record { number = 0; place = 0; cost = Plan.cost p }) × (soundAnswer p ≡ record { number = 0; place = 0 })
 unfolding fill
-plan-sound p table budget whole sound = rw (le-ltb (length p) 2561 whole, sound) (refl, refl, refl)
+plan-sound p table budget whole sound = rw (le-ltb (length p) planLength whole, sound) (refl, refl, refl)
 
 -- "A refused call changes nothing it was lent", for fill: neither table nor plan. No other call is lent a word that it may change.
 pub refused-fill-keeps : (p table : List ℕ) (budget : ℕ) → (fill 64 p table budget .answer .number ≡ 0 → ⊥)
@@ -195,14 +196,14 @@ one-tree = unambiguous
 
 module _ {s : List ℕ} {start step : ℕ} {lent : List ℕ} {r : CompileAnswer} {q : List ℕ} (call : Compiling 64 s start step lent r q) where
   -- "no text more and no text less": accepted exactly where the grammar and the limits allow it.
-  pub accepted-exactly : 2561 ≤ length lent → (r .number ≡ 0) ↔ ((t : Tree) × Allowed s t)
+  pub accepted-exactly : planLength ≤ length lent → (r .number ≡ 0) ↔ ((t : Tree) × Allowed s t)
   accepted-exactly whole = (
     λ nought. let (t, A) = Bridges.some-tree call nought in (t, allowed A),
     λ (t, L). ap (λ a. a .number) (compile-accepts call whole (faultless L)),
   )
 
   -- "4: not in the grammar": refused 4 exactly where the grammar has no such text, and neither 2 nor 3 applies.
-  pub outside-exactly : 2561 ≤ length lent
+  pub outside-exactly : planLength ≤ length lent
       → (r .number ≡ 4) ↔ ((length s ≤ 1024) × ((p : ℕ) → TooDeep s p → ⊥) × ((t : Tree) → Formula s t → ⊥))
   outside-exactly whole = (
     λ e. Bridges.four-only call whole e,
@@ -218,7 +219,7 @@ module _ {s : List ℕ} {start step : ℕ} {lent : List ℕ} {r : CompileAnswer}
   -- "Compiling folds exactly where 01 folds, and the plan has 01's layout": the words are those of the folded tree, all 2,561 of them, and
   -- the words after these stay. Folding.antt and Layout.antt have the rules, each under 01's sentence.
   pub plan-layout : r .number ≡ 0 → {t : Tree} → Formula s t
-      → (q ≡ planWords (fold 64 start step t) ++ drop 2561 lent) × (length (planWords (fold 64 start step t)) ≡ 2561)
+      → (q ≡ planWords (fold 64 start step t) ++ drop planLength lent) × (length (planWords (fold 64 start step t)) ≡ planLength)
   plan-layout nought means =
       let (A, e) = Bridges.its-plan call nought means in
       (e, Compiled.compiled-length 64 start step (omega arith) A)

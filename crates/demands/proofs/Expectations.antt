@@ -5,6 +5,7 @@ use Prim.Native.Nat.{ℕ, _+_, _*_, _/_, _≤_, min}
 use native.Mathlib.Nat.{zero-add}
 use native.Mathlib.Omega.{arith}
 use lib.ListN.{length, getD, drop}
+use Rattle.plan.specs.Measures.{planLength}
 use Rattle.chain.specs.Coefficients.{tabulated}
 use Rattle.formula.specs.Tree.{Tree}
 use Rattle.formula.specs.Refusals.{Refused, Accepted}
@@ -27,7 +28,7 @@ use Rattle.demands.proofs.PlanRows.{shiftedRows, pointsByRows, points-k
 
 module _ (s : List ℕ) (start step : ℕ) where
   compiles-only : {answer : CompileAnswer} {left : List ℕ → List ℕ}
-      → ((lent : List ℕ) → 2561 ≤ length lent → Compiling 64 s start step lent answer (left lent)) → Compiles s start step answer left
+      → ((lent : List ℕ) → planLength ≤ length lent → Compiling 64 s start step lent answer (left lent)) → Compiles s start step answer left
   compiles-only conforms = record { conforms = conforms; unique = λ lent long A. compiling-unique A (conforms lent long) }
 
   pub refused-so : {number place : ℕ} → Refused 64 s number place → RefusedSo s start step number place
@@ -60,7 +61,7 @@ module _ (s : List ℕ) (start step : ℕ) where
       laid = laid;
       compiles =
           compiles-only
-          (λ given long. subst (λ p. Compiling 64 s start step given (record { number = 0; place = 0 }) (p ++ drop 2561 given)) laid (accepted long A));
+          (λ given long. subst (λ p. Compiling 64 s start step given (record { number = 0; place = 0 }) (p ++ drop planLength given)) laid (accepted long A));
       has-rows = λ rest. ap (λ p. Plan.rows (p ++ rest)) (sym laid) ∙ rows-back folded rest ∙ same-rows;
       costs =
           λ rest. subst (λ p. costAnswer (p ++ rest) ≡ record { number = 0; place = 0; cost = cost }) laid
@@ -87,12 +88,12 @@ module _ (s : List ℕ) (start step : ℕ) where
       accepted = A;
       filled =
           λ given long C table size. ap (λ q. fill 64 q table budget) (compiling-unique C (accepted long A) .1)
-          ∙ fill-accepted 64 (lent (drop 2561 given)) table budget (compiled-accepted 64 start step (omega arith) A (drop 2561 given))
-          ∙ ap (λ n. filled 64 n (lent (drop 2561 given)) table) (counted (drop 2561 given) table size)
+          ∙ fill-accepted 64 (lent (drop planLength given)) table budget (compiled-accepted 64 start step (omega arith) A (drop planLength given))
+          ∙ ap (λ n. filled 64 n (lent (drop planLength given)) table) (counted (drop planLength given) table size)
           ∙ ap
-          (λ n. filling n (pointValues 64 points (lent (drop 2561 given)) ++ drop points table) (planAfter 64 points (lent (drop 2561 given))))
-          (paid (drop 2561 given))
-          ∙ ap₂ (λ l q. filling spent (l ++ drop points table) q) (direct-points points (drop 2561 given)) (after (drop 2561 given));
+          (λ n. filling n (pointValues 64 points (lent (drop planLength given)) ++ drop points table) (planAfter 64 points (lent (drop planLength given))))
+          (paid (drop planLength given))
+          ∙ ap₂ (λ l q. filling spent (l ++ drop points table) q) (direct-points points (drop planLength given)) (after (drop planLength given));
     }
       where
         filling : ℕ → List ℕ → List ℕ → Filled

@@ -5,6 +5,7 @@ use mathlib.Core.List.{List, [], _∷_, _++_}
 use Prim.Native.Nat.{ℕ, _-_, _*_, _^_, _≤_, _<_}
 use Prim.Native.String.{String}
 use lib.ListN.{length, getD, drop, replicate}
+use Rattle.plan.specs.Measures.{planLength, rowLength, rowsLength}
 use Rattle.chain.specs.Coefficients.{tabulated}
 use Rattle.formula.specs.Bytes.{bytes}
 use Rattle.formula.specs.Tree.{Tree}
@@ -108,12 +109,12 @@ caseAt i = getD starred i (plainly "" (refusal 4 0))
 -- ---- what a case says
 -- The 2,561 words of a plan of these rows.
 abbrev pub planOf : List Row → List ℕ
-planOf rows = length rows ∷ wordsOf rows ++ replicate (2560 - 20 * length rows) 0
+planOf rows = length rows ∷ wordsOf rows ++ replicate (rowsLength - rowLength * length rows) 0
 
 -- What compiling comes to by its contract, for every lent plan of 2,561 words or more: this answer and these words, and no others.
 pub record Compiles (s : List ℕ) (start step : ℕ) (answer : CompileAnswer) (left : List ℕ → List ℕ) : Type 0 where
-  pub conforms : (lent : List ℕ) → 2561 ≤ length lent → Compiling 64 s start step lent answer (left lent)
-  pub unique : (lent : List ℕ) → 2561 ≤ length lent → {r : CompileAnswer} {q : List ℕ} → Compiling 64 s start step lent r q
+  pub conforms : (lent : List ℕ) → planLength ≤ length lent → Compiling 64 s start step lent answer (left lent)
+  pub unique : (lent : List ℕ) → planLength ≤ length lent → {r : CompileAnswer} {q : List ℕ} → Compiling 64 s start step lent r q
       → (r ≡ answer) × (q ≡ left lent)
 
 -- A refusal: the text is refused so, and a lent plan stays as it was.
@@ -126,7 +127,7 @@ pub record FoldsSo (s : List ℕ) (start step : ℕ) (rows : List Row) (cost : �
   pub tree : Tree
   pub accepted : Accepted 64 s tree
   pub laid : planWords (fold 64 start step tree) ≡ planOf rows
-  pub compiles : Compiles s start step (record { number = 0; place = 0 }) (λ lent. planOf rows ++ drop 2561 lent)
+  pub compiles : Compiles s start step (record { number = 0; place = 0 }) (λ lent. planOf rows ++ drop planLength lent)
   -- The plan, whatever words follow it.
   pub has-rows : (rest : List ℕ) → Plan.rows (planOf rows ++ rest) ≡ rows
   pub costs : (rest : List ℕ) → costAnswer (planOf rows ++ rest) ≡ record { number = 0; place = 0; cost = cost }
@@ -139,13 +140,13 @@ pub record FillsSo (s : List ℕ) (start step budget room points spent : ℕ) (l
   pub accepted : Accepted 64 s tree
   -- The plan as compiling leaves it, and a table of that many words: the direct values at the first indices are written into the table,
   -- and the plan is left with these rows; all other words stay.
-  pub filled : (lent : List ℕ) → 2561 ≤ length lent → {r : CompileAnswer} {q : List ℕ} → Compiling 64 s start step lent r q
+  pub filled : (lent : List ℕ) → planLength ≤ length lent → {r : CompileAnswer} {q : List ℕ} → Compiling 64 s start step lent r q
       → (table : List ℕ) → length table ≡ room
       → fill 64 q table budget
       ≡ record {
         answer = record { number = 0; place = 0; points = points; spent = spent };
         table = tabulated (directValue 64 start step tree) 0 points ++ drop points table;
-        plan = planOf left ++ drop 2561 lent;
+        plan = planOf left ++ drop planLength lent;
       }
 
 abbrev pub SaysOf : (s : List ℕ) (start step : ℕ) → Expected → Type 0

@@ -9,6 +9,7 @@ use native.Mathlib.Omega.{arith}
 use lib.Dec.{eqb}
 use lib.ListN.{length, getD}
 use borrow.Author.Tests.{eqb-true, eq-eqb}
+use Rattle.plan.specs.Measures.{planLength, mostRows}
 use Rattle.formula.specs.Tree.{Tree}
 use Rattle.formula.specs.Value.{directValue}
 use Rattle.formula.specs.Refusals.{Accepted}
@@ -107,11 +108,11 @@ module _ (w start step : ℕ) (pos : 0 < w) {s : List ℕ} {t : Tree} (accepted 
   formed : WellFormed w (fold w start step t)
   formed = accepted-formed w start step accepted pos
 
-  few : rowCount (fold w start step t) ≤ 128
+  few : rowCount (fold w start step t) ≤ mostRows
   few = accepted-rows w start step accepted
 
   -- "Compiling writes all 2,561 words".
-  pub compiled-length : length (compiled w start step t) ≡ 2561
+  pub compiled-length : length (compiled w start step t) ≡ planLength
   compiled-length = length-plan (fold w start step t) few
 
   -- Every raise that stays in the folded tree has an odd constant for a base.
@@ -132,7 +133,7 @@ module _ (w start step : ℕ) (pos : 0 < w) {s : List ℕ} {t : Tree} (accepted 
     compiled-accepted = plan-accepted w (fold w start step t) formed few rest
 
     -- It has 128 rows at most.
-    pub compiled-rows : Plan.rowCount lent ≤ 128
+    pub compiled-rows : Plan.rowCount lent ≤ mostRows
     compiled-rows = few
 
     -- Every raise row has an odd constant for a base.

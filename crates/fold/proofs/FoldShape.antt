@@ -9,6 +9,7 @@ use lib.Dec.{eqb, leb}
 use lib.ListN.{length, getD, length-map}
 use lib.Pow.{pow-pos, pow-lt}
 use borrow.Author.Tests.{leb-true, eqb-false}
+use Rattle.plan.specs.Measures.{mostRows}
 use Rattle.word.specs.Word as Word
 use Rattle.word.proofs.Ring.{word-fits}
 use Rattle.chain.specs.Chain.{value, rest, joined, words, withLast, withoutTrailing, trimmed}
@@ -463,5 +464,5 @@ module _ (w start step : ℕ) {s : List ℕ} {t : Tree} (accepted : Accepted w s
   pub accepted-formed : 0 < w → WellFormed w (fold w start step t)
   accepted-formed pos = fold-formed w start step pos t (accepted-foldable accepted)
 
-  pub accepted-rows : rowCount (fold w start step t) ≤ 128
+  pub accepted-rows : rowCount (fold w start step t) ≤ mostRows
   accepted-rows = omega (arith, fold-rows w start step t, accepted-fits accepted .2)

@@ -9,6 +9,7 @@ use lib.Dec.{ltb}
 use lib.ListN.{length, getD, drop, replicate, length-append}
 use lib.Seq.{drop-nil, getD-at}
 use borrow.Author.Tests.{lt-ltb, le-ltb, le-leb, eq-eqb}
+use Rattle.plan.specs.Measures.{planLength, rowLength, rowsLength, mostRows}
 use Rattle.chain.specs.Chain as Chain
 use Rattle.plan.specs.Row.{Row, kindFacts, between, allZero, oddConstant, soundRow}
 use Rattle.plan.specs.Plan as Plan
@@ -171,17 +172,17 @@ unfolding allZero
 zeros-sound zero = refl
 zeros-sound (suc n) = zeros-sound n
 
-module _ (w : ℕ) (a : Folded) (h : WellFormed w a) (few : rowCount a ≤ 128) (rest : List ℕ) where
+module _ (w : ℕ) (a : Folded) (h : WellFormed w a) (few : rowCount a ≤ mostRows) (rest : List ℕ) where
   pub plan-sound : Plan.sound (planWords a ++ rest) ≡ true
   unfolding Plan.sound
   plan-sound =
       ap₂ (λ x y. x && (soundFrom [] (Plan.rows (planWords a ++ rest)) && allZero y))
-      (ap₂ _&&_ (le-leb 1 (rowCount a) (some-rows a)) (le-leb (rowCount a) 128 few)) (zeros-back a rest few)
-      ∙ ap₂ _&&_ (ap (λ f. soundFrom [] f) (rows-back a rest) ∙ rows-sound w a h []) (zeros-sound (2560 - 20 * rowCount a))
+      (ap₂ _&&_ (le-leb 1 (rowCount a) (some-rows a)) (le-leb (rowCount a) mostRows few)) (zeros-back a rest few)
+      ∙ ap₂ _&&_ (ap (λ f. soundFrom [] f) (rows-back a rest) ∙ rows-sound w a h []) (zeros-sound (rowsLength - rowLength * rowCount a))
 
   pub plan-accepted : Plan.refusal (planWords a ++ rest) ≡ 0
   plan-accepted =
-      ap₂ (λ x y. cond x 1 (cond y 0 9)) (le-ltb (length (planWords a ++ rest)) 2561 long) plan-sound
+      ap₂ (λ x y. cond x 1 (cond y 0 9)) (le-ltb (length (planWords a ++ rest)) planLength long) plan-sound
     where
-      long : 2561 ≤ length (planWords a ++ rest)
+      long : planLength ≤ length (planWords a ++ rest)
       long = rw (length-append (planWords a) rest, length-plan a few) (omega arith)

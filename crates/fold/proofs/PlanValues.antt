@@ -7,6 +7,7 @@ use native.Mathlib.Nat.{zero-add, add-zero, mul-one, mod-eq-of-lt, suc-inj, suc-
 use native.Mathlib.Omega.{arith}
 use lib.ListN.{length, getD, drop, replicate, length-append, length-map}
 use lib.Seq.{getD-take, getD-at}
+use Rattle.plan.specs.Measures.{rowLength, rowsLength}
 use Rattle.word.specs.Word as Word
 use Rattle.chain.specs.Chain as Chain
 use Rattle.chain.specs.SumChain.{sumShift}
@@ -31,7 +32,7 @@ use Rattle.fold.specs.Layout.{rowCount, rowWords, rootRow, behindBoth, r
 use Rattle.fold.specs.Shape.{Fits, OddBase, WellFormed}
 use Rattle.fold.proofs.Tests.{shaped}
 use Rattle.fold.proofs.FoldShape.{words-below}
-use Rattle.fold.proofs.ReadBack.{Twenty, first-row, later-words, rows-of, some-rows}
+use Rattle.fold.proofs.ReadBack.{FullRows, first-row, later-words, rows-of, some-rows}
 use Rattle.fold.proofs.ReadBack.{chainRow, chain-back, afterRows, words-back, rows-back}
 
 -- ---- the value of the root
@@ -255,9 +256,9 @@ rows-shifted w n (raiseRow a b) h = two-shifted w n 8 refl a (rows-shifted w n a
 
 -- ---- the plan shifted once
 -- A shift of the words of rows is the words of the shifted rows.
-words-shifted : (w : ℕ) (f : List Row) (rest : List ℕ) → Twenty f
+words-shifted : (w : ℕ) (f : List Row) (rest : List ℕ) → FullRows f
     → shiftedFrom w (length f) (wordsOf f ++ rest) ≡ wordsOf (map (shiftedRow w) f) ++ rest
-unfolding Twenty wordsOf shiftedFrom
+unfolding FullRows wordsOf shiftedFrom
 words-shifted w [] rest h = refl
 words-shifted w (row ∷ f) rest h =
     ap₂ (λ x l. shiftedRow w x ++ shiftedFrom w (length f) l) (first-row row (wordsOf f) rest (h .0)) (later-words row (wordsOf f) rest (h .0))
@@ -269,8 +270,8 @@ plan-shifted : (w : ℕ) (a : Folded) (rest : List ℕ) → WellFormed w a
 unfolding shiftedPlan
 plan-shifted w a rest h =
     ap₂ {C = List ℕ} (λ n l. rowCount a ∷ shiftedFrom w n l) (sym (rows-of 0 a .count)) (words-back a rest)
-    ∙ ap₂ {C = List ℕ} _∷_ (sym (count-shifted w a)) (words-shifted w (rowsFrom 0 a) (afterRows a rest) (rows-of 0 a .twenty))
-    ∙ ap₂ {C = List ℕ} (λ f n. rowCount (shiftedFolded w a) ∷ wordsOf f ++ (replicate (2560 - 20 * n) 0 ++ rest))
+    ∙ ap₂ {C = List ℕ} _∷_ (sym (count-shifted w a)) (words-shifted w (rowsFrom 0 a) (afterRows a rest) (rows-of 0 a .full))
+    ∙ ap₂ {C = List ℕ} (λ f n. rowCount (shiftedFolded w a) ∷ wordsOf f ++ (replicate (rowsLength - rowLength * n) 0 ++ rest))
     (sym (rows-shifted w 0 a h)) (sym (count-shifted w a))
     ∙ ap {B = List ℕ} (λ l. rowCount (shiftedFolded w a) ∷ l) (sym (words-back (shiftedFolded w a) rest))
 

@@ -7,6 +7,7 @@ use native.Mathlib.Nat.{not-suc-le-zero, le-of-suc-le-suc}
 use native.Mathlib.Omega.{arith}
 use lib.ListN.{length, getD, take, drop, replicate, length-append, length-replicate}
 use lib.Seq.{slice, take-at, drop-at}
+use Rattle.plan.specs.Measures.{planLength, rowLength, rowsLength, mostRows, rowStart}
 use Rattle.chain.specs.Chain as Chain
 use Rattle.chain.proofs.Trimming.{length-row}
 use Rattle.plan.specs.Row.{Row}
@@ -21,54 +22,54 @@ use Rattle.fold.specs.Shape.{Fits, WellFormed}
 use Rattle.fold.proofs.Tests.{either, shaped, sum-chain-again}
 
 -- ---- rows of 20 words each
-unfoldable pub Twenty : List Row → Type 0
-Twenty [] = Unit {0}
-Twenty (row ∷ rows) = (length row ≡ 20) × Twenty rows
+unfoldable pub FullRows : List Row → Type 0
+FullRows [] = Unit {0}
+FullRows (row ∷ rows) = (length row ≡ rowLength) × FullRows rows
 
-pub twenty-append : (f g : List Row) → Twenty f → Twenty g → Twenty (f ++ g)
-unfolding Twenty
-twenty-append [] g h k = k
-twenty-append (row ∷ f) g h k = (h .0, twenty-append f g (h .1) k)
+pub full-append : (f g : List Row) → FullRows f → FullRows g → FullRows (f ++ g)
+unfolding FullRows
+full-append [] g h k = k
+full-append (row ∷ f) g h k = (h .0, full-append f g (h .1) k)
 
-pub length-words-of : (f : List Row) → Twenty f → length (wordsOf f) ≡ 20 * length f
-unfolding Twenty wordsOf
+pub length-words-of : (f : List Row) → FullRows f → length (wordsOf f) ≡ rowLength * length f
+unfolding FullRows wordsOf
 length-words-of [] h = refl
 length-words-of (row ∷ f) h = length-append row (wordsOf f) ∙ ap₂ _+_ (h .0) (length-words-of f (h .1)) ∙ next
   where
-    next : 20 + 20 * length f ≡ 20 * suc (length f)
+    next : rowLength + rowLength * length f ≡ rowLength * suc (length f)
     next = omega arith
 
 -- They are cut where they were put together.
-pub first-row : (row : Row) (f rest : List ℕ) → length row ≡ 20 → take 20 (row ++ f ++ rest) ≡ row
-first-row row f rest e = ap (take 20) (append-assoc row f rest) ∙ take-at row (f ++ rest) 20 e
+pub first-row : (row : Row) (f rest : List ℕ) → length row ≡ rowLength → take rowLength (row ++ f ++ rest) ≡ row
+first-row row f rest e = ap (take rowLength) (append-assoc row f rest) ∙ take-at row (f ++ rest) rowLength e
 
-pub later-words : (row : Row) (f rest : List ℕ) → length row ≡ 20 → drop 20 (row ++ f ++ rest) ≡ f ++ rest
-later-words row f rest e = ap (drop 20) (append-assoc row f rest) ∙ drop-at row (f ++ rest) 20 e
+pub later-words : (row : Row) (f rest : List ℕ) → length row ≡ rowLength → drop rowLength (row ++ f ++ rest) ≡ f ++ rest
+later-words row f rest e = ap (drop rowLength) (append-assoc row f rest) ∙ drop-at row (f ++ rest) rowLength e
 
-pub cut-rows : (f : List Row) (rest : List ℕ) → Twenty f → Plan.rowsFrom (length f) (wordsOf f ++ rest) ≡ f
-unfolding Twenty wordsOf Plan.rowsFrom
+pub cut-rows : (f : List Row) (rest : List ℕ) → FullRows f → Plan.rowsFrom (length f) (wordsOf f ++ rest) ≡ f
+unfolding FullRows wordsOf Plan.rowsFrom
 cut-rows [] rest h = refl
 cut-rows (row ∷ f) rest h =
     ap₂ {C = List Row} _∷_ (first-row row (wordsOf f) rest (h .0))
     (ap (Plan.rowsFrom (length f)) (later-words row (wordsOf f) rest (h .0)) ∙ cut-rows f rest (h .1))
 
 -- ---- the rows of a folded tree
-pub length-row-words : (kind a b : ℕ) (f : List ℕ) → length (rowWords kind a b f) ≡ 20
+pub length-row-words : (kind a b : ℕ) (f : List ℕ) → length (rowWords kind a b f) ≡ rowLength
 length-row-words kind a b f = ap (λ n. suc (suc (suc n))) (length-row 17 f)
 
 -- n rows of 20 words each.
 pub record Rows (n : ℕ) (f : List Row) : Type 0 where
   pub count : length f ≡ n
-  pub twenty : Twenty f
+  pub full : FullRows f
 
 one-row : (kind a b : ℕ) (f : List ℕ) → Rows 1 (rowWords kind a b f ∷ [])
-unfolding Twenty
-one-row kind a b f = record { count = refl; twenty = (length-row-words kind a b f, tt) }
+unfolding FullRows
+one-row kind a b f = record { count = refl; full = (length-row-words kind a b f, tt) }
 
 rows-together : {n m : ℕ} {f g : List Row} → Rows n f → Rows m g → Rows (n + m) (f ++ g)
 rows-together {f} {g} h k = record {
   count = length-append f g ∙ ap₂ _+_ (h .count) (k .count);
-  twenty = twenty-append f g (h .twenty) (k .twenty);
+  full = full-append f g (h .full) (k .full);
 }
 
 pub rows-of : (n : ℕ) (a : Folded) → Rows (rowCount a) (rowsFrom n a)
@@ -95,8 +96,8 @@ some-rows (minusRow a) = omega arith
 some-rows (powerRow a n) = omega arith
 some-rows (raiseRow a b) = omega arith
 
-pub length-tree : (n : ℕ) (a : Folded) → length (wordsOf (rowsFrom n a)) ≡ 20 * rowCount a
-length-tree n a = length-words-of (rowsFrom n a) (rows-of n a .twenty) ∙ ap (λ k. 20 * k) (rows-of n a .count)
+pub length-tree : (n : ℕ) (a : Folded) → length (wordsOf (rowsFrom n a)) ≡ rowLength * rowCount a
+length-tree n a = length-words-of (rowsFrom n a) (rows-of n a .full) ∙ ap (λ k. rowLength * k) (rows-of n a .count)
 
 -- ---- chains and their rows
 -- The row of a chain: the chain is read from it.
@@ -127,38 +128,38 @@ sum-back w n a e =
     Back b = WellFormed w b → ofSum (chainOf (getD (rowsFrom n b) 0 [])) ≡ b
 
 -- ---- the plan
-pub length-plan : (a : Folded) → rowCount a ≤ 128 → length (planWords a) ≡ 2561
+pub length-plan : (a : Folded) → rowCount a ≤ mostRows → length (planWords a) ≡ planLength
 length-plan a few =
     ap suc
-    (length-append (wordsOf (rowsFrom 0 a)) (replicate (2560 - 20 * rowCount a) 0)
-    ∙ ap₂ _+_ (length-tree 0 a) (length-replicate (2560 - 20 * rowCount a) 0))
+    (length-append (wordsOf (rowsFrom 0 a)) (replicate (rowsLength - rowLength * rowCount a) 0)
+    ∙ ap₂ _+_ (length-tree 0 a) (length-replicate (rowsLength - rowLength * rowCount a) 0))
     ∙ all
   where
-    all : suc (20 * rowCount a + (2560 - 20 * rowCount a)) ≡ 2561
+    all : suc (rowLength * rowCount a + (rowsLength - rowLength * rowCount a)) ≡ planLength
     all = omega arith
 
 module _ (a : Folded) (rest : List ℕ) where
   -- What comes after the rows: the zeros that fill the plan, and what is not of the plan.
   abbrev pub afterRows : List ℕ
-  afterRows = replicate (2560 - 20 * rowCount a) 0 ++ rest
+  afterRows = replicate (rowsLength - rowLength * rowCount a) 0 ++ rest
 
   pub count-back : Plan.rowCount (planWords a ++ rest) ≡ rowCount a
   count-back = refl
 
   pub words-back : drop 1 (planWords a ++ rest) ≡ wordsOf (rowsFrom 0 a) ++ afterRows
-  words-back = append-assoc (wordsOf (rowsFrom 0 a)) (replicate (2560 - 20 * rowCount a) 0) rest
+  words-back = append-assoc (wordsOf (rowsFrom 0 a)) (replicate (rowsLength - rowLength * rowCount a) 0) rest
 
   pub rows-back : Plan.rows (planWords a ++ rest) ≡ rowsFrom 0 a
   rows-back =
-      ap₂ Plan.rowsFrom (sym (rows-of 0 a .count)) words-back ∙ cut-rows (rowsFrom 0 a) afterRows (rows-of 0 a .twenty)
+      ap₂ Plan.rowsFrom (sym (rows-of 0 a .count)) words-back ∙ cut-rows (rowsFrom 0 a) afterRows (rows-of 0 a .full)
 
   pub row-back : (r : ℕ) → r < rowCount a → Plan.row (planWords a ++ rest) r ≡ getD (rowsFrom 0 a) r []
   row-back r h = sym (earlier-row (planWords a ++ rest) (rowCount a) r h) ∙ ap (λ f. getD f r []) rows-back
 
-  pub zeros-back : rowCount a ≤ 128 → slice (1 + 20 * rowCount a) 2561 (planWords a ++ rest) ≡ replicate (2560 - 20 * rowCount a) 0
+  pub zeros-back : rowCount a ≤ mostRows → slice (rowStart (rowCount a)) planLength (planWords a ++ rest) ≡ replicate (rowsLength - rowLength * rowCount a) 0
   zeros-back few =
-      ap (λ f. drop (1 + 20 * rowCount a) f) (take-at (planWords a) rest 2561 (length-plan a few))
-      ∙ drop-at (rowCount a ∷ wordsOf (rowsFrom 0 a)) (replicate (2560 - 20 * rowCount a) 0) (1 + 20 * rowCount a) front
+      ap (λ f. drop (rowStart (rowCount a)) f) (take-at (planWords a) rest planLength (length-plan a few))
+      ∙ drop-at (rowCount a ∷ wordsOf (rowsFrom 0 a)) (replicate (rowsLength - rowLength * rowCount a) 0) (rowStart (rowCount a)) front
     where
-      front : suc (length (wordsOf (rowsFrom 0 a))) ≡ 1 + 20 * rowCount a
+      front : suc (length (wordsOf (rowsFrom 0 a))) ≡ 1 + rowLength * rowCount a
       front = rw (length-tree 0 a) (omega arith)

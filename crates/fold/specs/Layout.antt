@@ -2,6 +2,7 @@
 use mathlib.Core.List.{List, [], _∷_, _++_}
 use Prim.Native.Nat.{ℕ, _+_, _-_, _*_}
 use lib.ListN.{length, replicate}
+use Rattle.plan.specs.Measures.{rowLength, rowsLength}
 use Rattle.chain.specs.Chain as Chain
 use Rattle.plan.specs.Row.{Row}
 use Rattle.fold.specs.Folded.{Folded, constant, sumChain, productChain, sumRow, differenceRow, productRow, minusRow, powerRow, raiseRow}
@@ -49,4 +50,4 @@ wordsOf (row ∷ rows) = row ++ wordsOf rows
 
 -- "Compiling writes all 2,561 words": the number of rows, the rows, and 0.
 abbrev pub planWords : Folded → List ℕ
-planWords a = rowCount a ∷ wordsOf (rowsFrom 0 a) ++ replicate (2560 - 20 * rowCount a) 0
+planWords a = rowCount a ∷ wordsOf (rowsFrom 0 a) ++ replicate (rowsLength - rowLength * rowCount a) 0

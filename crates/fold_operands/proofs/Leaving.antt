@@ -6,6 +6,7 @@ use Prim.Native.Nat.{ℕ, suc, _+_, _-_, _≤_, _<_}
 use native.Mathlib.Omega.{arith}
 use lib.Dec.{eqb}
 use lib.ListN.{length, set}
+use Rattle.plan.specs.Measures.{planLength, rowStart, mostRows}
 use Rattle.chain.specs.declared.ChainAnswer.{ChainAnswer}
 use Rattle.chain.specs.Chain.{trimmed, row}
 use Rattle.chain.specs.Answer.{answered, chain}
@@ -14,7 +15,7 @@ use Rattle.fold.specs.Folded.{Folded, constant, sumRow, differenceRow, productR
 use Rattle.fold.specs.Folding.{is}
 use Rattle.fold.specs.Layout.{rowCount, rowWords}
 use Rattle.fold.specs.Shape.{WellFormed}
-use Rattle.fold_rows.specs.Standing.{rowStart, withRow, Stands, placed, movedDown}
+use Rattle.fold_rows.specs.Standing.{withRow, Stands, placed, movedDown}
 use Rattle.fold_rows.proofs.Stood.{sum-placed, placed-again, placed-stands, moved-placed, minus-placed, power-placed}
 use Rattle.fold_rows.proofs.Stood.{sum-row-placed, difference-row-placed, product-row-placed, raise-row-placed}
 use Rattle.fold_operands.specs.Operands.{Operand, Operands, Left}
@@ -66,7 +67,7 @@ answer-put p n f ha hq =
 
 -- ---- one operand: "Anything else stays a row of the plan."
 module _ {p : List ℕ} {first end : ℕ} {a : Folded} (o : Operand p first end a) where
-  pub room-of-one : 2561 ≤ length p → end < 128 → rowStart first ≤ length p
+  pub room-of-one : planLength ≤ length p → end < mostRows → rowStart first ≤ length p
   room-of-one long few = omega (arith, operand-some o)
 
   module _ (room : rowStart first ≤ length p) {q : List ℕ} where
@@ -89,7 +90,7 @@ constant-row : (n : ℕ) (a : Folded) → is n a ≡ true → rowCount a ≡ 1
 constant-row n a e = ap rowCount (is-the-constant n a e) ∙ one-sum-row (n ∷ [])
 
 module _ {p : List ℕ} {left middle end : ℕ} {a b : Folded} (o : Operands p left middle end a b) where
-  pub room-of-both : 2561 ≤ length p → end < 128 → rowStart left ≤ length p
+  pub room-of-both : planLength ≤ length p → end < mostRows → rowStart left ≤ length p
   room-of-both long few = omega (arith, operand-some (o .first), operand-some (o .second))
 
   -- The right one is a constant that the rule drops: the left one stays.

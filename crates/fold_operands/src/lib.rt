@@ -7,6 +7,7 @@ ghost use mathlib.Core.List.{[], _∷_};
 ghost use Prim.Native.Nat.{_≤_, _<_};
 ghost use lib.Dec.{eqb};
 ghost use lib.ListN.{length, getD};
+ghost use Rattle.plan.specs.Measures.{planLength, rowLength, mostRows};
 ghost use Rattle.plan.specs.Row.{kind, wordA};
 ghost use Rattle.plan.specs.Plan.{row};
 ghost use Rattle.fold.specs.Folded.{constant};
@@ -15,9 +16,9 @@ ghost use Rattle.fold_rows.specs.Standing.{withRow, placed};
 
 // Word i of row r.
 fn word_of(plan: &[u64], r: usize, i: usize) -> u64
-    requires { ⌜ 2561 ≤ length (now plan) ⌝ }
-    requires { ⌜ r < 128 ⌝ }
-    requires { ⌜ i < 20 ⌝ }
+    requires { ⌜ planLength ≤ length (now plan) ⌝ }
+    requires { ⌜ r < mostRows ⌝ }
+    requires { ⌜ i < rowLength ⌝ }
     ensures { λ w. ⌜ w ≡ getD (row (now (plan .entry)) r) i 0 ⌝ }
 {
     plan[1 + 20 * r + i]
@@ -25,8 +26,8 @@ fn word_of(plan: &[u64], r: usize, i: usize) -> u64
 
 // The kind of row r.
 pub fn kind(plan: &[u64], r: usize) -> u64
-    requires { ⌜ 2561 ≤ length (now plan) ⌝ }
-    requires { ⌜ r < 128 ⌝ }
+    requires { ⌜ planLength ≤ length (now plan) ⌝ }
+    requires { ⌜ r < mostRows ⌝ }
     ensures { λ k. ⌜ k ≡ kind (row (now (plan .entry)) r) ⌝ }
 {
     word_of(plan, r, 0)
@@ -34,8 +35,8 @@ pub fn kind(plan: &[u64], r: usize) -> u64
 
 // The length of the chain in row r; a constant has length 0.
 pub fn length_of(plan: &[u64], r: usize) -> usize
-    requires { ⌜ 2561 ≤ length (now plan) ⌝ }
-    requires { ⌜ r < 128 ⌝ }
+    requires { ⌜ planLength ≤ length (now plan) ⌝ }
+    requires { ⌜ r < mostRows ⌝ }
     ensures { λ k. ⌜ k ≡ wordA (row (now (plan .entry)) r) ⌝ }
 {
     word_of(plan, r, 1) as usize
@@ -43,8 +44,8 @@ pub fn length_of(plan: &[u64], r: usize) -> usize
 
 // Element 0 of row r.
 pub fn first_element(plan: &[u64], r: usize) -> u64
-    requires { ⌜ 2561 ≤ length (now plan) ⌝ }
-    requires { ⌜ r < 128 ⌝ }
+    requires { ⌜ planLength ≤ length (now plan) ⌝ }
+    requires { ⌜ r < mostRows ⌝ }
     ensures { λ e. ⌜ e ≡ getD (row (now (plan .entry)) r) 3 0 ⌝ }
 {
     word_of(plan, r, 3)
@@ -52,8 +53,8 @@ pub fn first_element(plan: &[u64], r: usize) -> u64
 
 // Row r is the constant n.
 pub fn is_constant(plan: &[u64], r: usize, n: u64) -> bool
-    requires { ⌜ 2561 ≤ length (now plan) ⌝ }
-    requires { ⌜ r < 128 ⌝ }
+    requires { ⌜ planLength ≤ length (now plan) ⌝ }
+    requires { ⌜ r < mostRows ⌝ }
     ensures { λ s. ⌜ s ≡ (eqb (kind (row (now (plan .entry)) r)) 0 && eqb (getD (row (now (plan .entry)) r) 3 0) n) ⌝ }
 {
     if kind(plan, r) != 0 {
@@ -64,8 +65,8 @@ pub fn is_constant(plan: &[u64], r: usize, n: u64) -> bool
 
 // An operator's row behind its operands.
 pub fn append(plan: &mut [u64], end: usize, kind: u64, a: u64, b: u64)
-    requires { ⌜ 2561 ≤ length (now plan) ⌝ }
-    requires { ⌜ end < 128 ⌝ }
+    requires { ⌜ planLength ≤ length (now plan) ⌝ }
+    requires { ⌜ end < mostRows ⌝ }
     ensures { λ _. ⌜ now (plan .exit) ≡ withRow (now (plan .entry)) end (rowWords kind a b []) ⌝ }
 {
     fold_rows::write(plan, end, kind, a, b, chain_arrays::zeros());
@@ -73,8 +74,8 @@ pub fn append(plan: &mut [u64], end: usize, kind: u64, a: u64, b: u64)
 
 // The row of a trimmed sum chain.
 pub fn put_sum(plan: &mut [u64], r: usize, f: ChainAnswer)
-    requires { ⌜ 2561 ≤ length (now plan) ⌝ }
-    requires { ⌜ r < 128 ⌝ }
+    requires { ⌜ planLength ≤ length (now plan) ⌝ }
+    requires { ⌜ r < mostRows ⌝ }
     ensures { λ _. ⌜ now (plan .exit) ≡ withRow (now (plan .entry)) r (cond (eqb (f .length) 0) 0 1 ∷ (f .length) ∷ 0 ∷ (f .elements)) ⌝ }
 {
     let elements = f.elements;
@@ -83,8 +84,8 @@ pub fn put_sum(plan: &mut [u64], r: usize, f: ChainAnswer)
 
 // The row of the constant c.
 pub fn put_constant(plan: &mut [u64], r: usize, c: u64)
-    requires { ⌜ 2561 ≤ length (now plan) ⌝ }
-    requires { ⌜ r < 128 ⌝ }
+    requires { ⌜ planLength ≤ length (now plan) ⌝ }
+    requires { ⌜ r < mostRows ⌝ }
     ensures { λ _. ⌜ now (plan .exit) ≡ placed (now (plan .entry)) r (constant c) ⌝ }
 {
     let mut e = chain_arrays::zeros();

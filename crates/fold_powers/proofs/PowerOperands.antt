@@ -8,6 +8,7 @@ use native.Mathlib.Omega.{arith}
 use lib.Dec.{eqb, leb}
 use lib.ListN.{length, getD, take}
 use borrow.Author.Tests.{eqb-true, eq-eqb, ne-eqb, le-leb, lt-leb}
+use Rattle.plan.specs.Measures.{rowStart}
 use Rattle.word.specs.Word as Word
 use Rattle.chain.specs.declared.ChainAnswer.{ChainAnswer}
 use Rattle.chain.specs.Chain as Chain
@@ -21,7 +22,7 @@ use Rattle.fold.specs.Folded as Folded
 use Rattle.fold.specs.Folded.{Folded, constant, powerRow, raiseRow, isSumChain, isProductChain, ofProduct, trimmedSum, trimmedProduct}
 use Rattle.fold.specs.Folding.{wordOf, lengthOf, foldPower, foldRaise}
 use Rattle.fold.specs.Layout.{rowWords}
-use Rattle.fold_rows.specs.Standing.{rowStart, withRow, placed, filledWithOnes}
+use Rattle.fold_rows.specs.Standing.{withRow, placed, filledWithOnes}
 use Rattle.fold_rows.proofs.Stood.{kindOf, is-constant, no-constant, is-sum-chain, no-sum-chain, is-product-chain, no-product-chain, placed-again}
 use Rattle.fold_operands.specs.Operands.{Operand, Folds, FoldsBoth}
 use Rattle.fold_operands.proofs.OperandLaws.{Sum, one, several, sum-operand, operand-kind, operand-last}

@@ -13,6 +13,7 @@ use fold_rows::product_rows;
 ghost use mathlib.Core.Path.{_≡_};
 ghost use Prim.Native.Nat.{_+_, _-_, _*_, _≤_, _<_};
 ghost use lib.ListN.{length, take};
+ghost use Rattle.plan.specs.Measures.{planLength, mostRows};
 ghost use Rattle.plan.specs.Row.{kind};
 ghost use Rattle.plan.specs.Plan.{row};
 ghost use Rattle.chain.specs.Chain.{words, trimmed};
@@ -40,8 +41,8 @@ fn power_of(f: [u64; 17], k: usize, n: u64) -> ChainAnswer
 
 // Chains and operators to the n: S^n if k*n is at most 16, every element of P, or a row.
 fn fold_high_power(plan: &mut [u64], first: usize, end: usize, n: u64) -> usize
-    requires { ⌜ 2561 ≤ length (now plan) ⌝ }
-    requires { ⌜ end < 128 ⌝ }
+    requires { ⌜ planLength ≤ length (now plan) ⌝ }
+    requires { ⌜ end < mostRows ⌝ }
     requires { ⌜ 2 ≤ n ⌝ }
     requires { ⌜ n ≤ 64 ⌝ }
     requires { ⌜ One (now plan) first end ⌝ }
@@ -69,8 +70,8 @@ fn fold_high_power(plan: &mut [u64], first: usize, end: usize, n: u64) -> usize
 
 // The operand from row first up to row end, to the n: "A^0 is 1, A^1 is A".
 pub fn fold_power(plan: &mut [u64], first: usize, end: usize, n: u64) -> usize
-    requires { ⌜ 2561 ≤ length (now plan) ⌝ }
-    requires { ⌜ end < 128 ⌝ }
+    requires { ⌜ planLength ≤ length (now plan) ⌝ }
+    requires { ⌜ end < mostRows ⌝ }
     requires { ⌜ n ≤ 64 ⌝ }
     requires { ⌜ One (now plan) first end ⌝ }
     ensures { λ r. ⌜ Folds (λ a. foldPower 64 a n) (now (plan .entry)) first end r (now (plan .exit)) ⌝ }
@@ -93,8 +94,8 @@ pub fn fold_power(plan: &mut [u64], first: usize, end: usize, n: u64) -> usize
 
 // The operand before row middle to the one behind it: "C by C worked out; C by S becomes a product chain with elements C^fj."
 pub fn fold_raise(plan: &mut [u64], left: usize, middle: usize, end: usize) -> usize
-    requires { ⌜ 2561 ≤ length (now plan) ⌝ }
-    requires { ⌜ end < 128 ⌝ }
+    requires { ⌜ planLength ≤ length (now plan) ⌝ }
+    requires { ⌜ end < mostRows ⌝ }
     requires { ⌜ Two (now plan) left middle end ⌝ }
     ensures { λ r. ⌜ FoldsBoth (foldRaise 64) (now (plan .entry)) left middle end r (now (plan .exit)) ⌝ }
 {

@@ -7,6 +7,7 @@ use native.Mathlib.Omega.{arith}
 use lib.Dec.{eqb, ltb, leb}
 use lib.ListN.{length, take, length-take}
 use borrow.Author.Tests.{eqb-true, ltb-true, leb-true, le-leb, lt-ltb, le-ltb}
+use Rattle.plan.specs.Measures.{rowStart}
 use Rattle.chain.specs.Chain.{words, trimmed}
 use Rattle.chain.specs.SumChain.{product}
 use Rattle.chain.specs.ProductChain.{jointProduct}
@@ -21,7 +22,7 @@ use Rattle.fold.specs.Folded.{Folded, constant, ofProduct, trimmedSum, trimmedP
 use Rattle.fold.specs.Folding.{is, lengthOf, foldProduct}
 use Rattle.fold.specs.Layout.{rowWords}
 use Rattle.fold.proofs.Tests.{either}
-use Rattle.fold_rows.specs.Standing.{rowStart, withRow, placed, movedDown, filledWithOnes}
+use Rattle.fold_rows.specs.Standing.{withRow, placed, movedDown, filledWithOnes}
 use Rattle.fold_rows.proofs.Stood.{kindOf}
 use Rattle.fold_operands.specs.Operands.{Operands, Left}
 use Rattle.fold_operands.proofs.OperandLaws.{is-the-constant, constantAt, operand-kind, operand-last, operand-chain, operand-taken, operand-short, operand-is}

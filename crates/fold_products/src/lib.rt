@@ -14,6 +14,7 @@ ghost use mathlib.Core.Bool.{_&&_, _||_};
 ghost use Prim.Native.Nat.{_+_, _≤_, _<_};
 ghost use lib.Dec.{eqb, ltb, leb};
 ghost use lib.ListN.{length, getD, take};
+ghost use Rattle.plan.specs.Measures.{planLength, mostRows};
 ghost use Rattle.chain.specs.Chain.{words};
 ghost use Rattle.chain.specs.SumChain.{product};
 ghost use Rattle.chain.specs.ProductChain.{jointProduct};
@@ -27,8 +28,8 @@ ghost use Rattle.fold_operands.specs.Operands.{Two, FoldsBoth};
 
 // The product chain in row r, or a constant as its element 0, filled with ones.
 fn filled(plan: &[u64], r: usize) -> [u64; 17]
-    requires { ⌜ 2561 ≤ length (now plan) ⌝ }
-    requires { ⌜ r < 128 ⌝ }
+    requires { ⌜ planLength ≤ length (now plan) ⌝ }
+    requires { ⌜ r < mostRows ⌝ }
     requires { ⌜ wordA (row (now plan) r) ≤ 16 ⌝ }
     ensures { λ f. ⌜ f ≡ filledWithOnes 17 (take (wordA (row (now (plan .entry)) r) + 1) (elements (row (now (plan .entry)) r))) ⌝ }
 {
@@ -38,9 +39,9 @@ fn filled(plan: &[u64], r: usize) -> [u64; 17]
 
 // One of the rows a and b is the constant 0.
 fn has_zero(plan: &[u64], a: usize, b: usize) -> bool
-    requires { ⌜ 2561 ≤ length (now plan) ⌝ }
-    requires { ⌜ a < 128 ⌝ }
-    requires { ⌜ b < 128 ⌝ }
+    requires { ⌜ planLength ≤ length (now plan) ⌝ }
+    requires { ⌜ a < mostRows ⌝ }
+    requires { ⌜ b < mostRows ⌝ }
     ensures { λ s. ⌜
         s
         ≡ (eqb (kind (row (now (plan .entry)) a)) 0 && eqb (getD (row (now (plan .entry)) a) 3 0) 0
@@ -55,9 +56,9 @@ fn has_zero(plan: &[u64], a: usize, b: usize) -> bool
 
 // Rows a and b are constants or sum chains, with lengths that add to 16 at most.
 fn are_sums(plan: &[u64], a: usize, b: usize) -> bool
-    requires { ⌜ 2561 ≤ length (now plan) ⌝ }
-    requires { ⌜ a < 128 ⌝ }
-    requires { ⌜ b < 128 ⌝ }
+    requires { ⌜ planLength ≤ length (now plan) ⌝ }
+    requires { ⌜ a < mostRows ⌝ }
+    requires { ⌜ b < mostRows ⌝ }
     ensures { λ s. ⌜
         s
         ≡ (ltb (kind (row (now (plan .entry)) a)) 2
@@ -80,8 +81,8 @@ fn are_sums(plan: &[u64], a: usize, b: usize) -> bool
 
 // Row r is a constant or a product chain.
 fn is_product(plan: &[u64], r: usize) -> bool
-    requires { ⌜ 2561 ≤ length (now plan) ⌝ }
-    requires { ⌜ r < 128 ⌝ }
+    requires { ⌜ planLength ≤ length (now plan) ⌝ }
+    requires { ⌜ r < mostRows ⌝ }
     ensures { λ s. ⌜ s ≡ (eqb (kind (row (now (plan .entry)) r)) 0 || eqb (kind (row (now (plan .entry)) r)) 2) ⌝ }
 {
     let k = kind(plan, r);
@@ -92,9 +93,9 @@ fn is_product(plan: &[u64], r: usize) -> bool
 }
 
 fn are_products(plan: &[u64], a: usize, b: usize) -> bool
-    requires { ⌜ 2561 ≤ length (now plan) ⌝ }
-    requires { ⌜ a < 128 ⌝ }
-    requires { ⌜ b < 128 ⌝ }
+    requires { ⌜ planLength ≤ length (now plan) ⌝ }
+    requires { ⌜ a < mostRows ⌝ }
+    requires { ⌜ b < mostRows ⌝ }
     ensures { λ s. ⌜
         s
         ≡ ((eqb (kind (row (now (plan .entry)) a)) 0 || eqb (kind (row (now (plan .entry)) a)) 2)
@@ -109,10 +110,10 @@ fn are_products(plan: &[u64], a: usize, b: usize) -> bool
 
 // The product of the sum chains in rows a and b by document 000's rule, in row r.
 fn put_product_of_sums(plan: &mut [u64], r: usize, a: usize, b: usize)
-    requires { ⌜ 2561 ≤ length (now plan) ⌝ }
-    requires { ⌜ r < 128 ⌝ }
-    requires { ⌜ a < 128 ⌝ }
-    requires { ⌜ b < 128 ⌝ }
+    requires { ⌜ planLength ≤ length (now plan) ⌝ }
+    requires { ⌜ r < mostRows ⌝ }
+    requires { ⌜ a < mostRows ⌝ }
+    requires { ⌜ b < mostRows ⌝ }
     requires { ⌜ wordA (row (now plan) a) + wordA (row (now plan) b) ≤ 16 ⌝ }
     ensures { λ _. ⌜
         now (plan .exit)
@@ -132,10 +133,10 @@ fn put_product_of_sums(plan: &mut [u64], r: usize, a: usize, b: usize)
 
 // The product of the product chains in rows a and b, in row r.
 fn put_product_of_products(plan: &mut [u64], r: usize, a: usize, b: usize)
-    requires { ⌜ 2561 ≤ length (now plan) ⌝ }
-    requires { ⌜ r < 128 ⌝ }
-    requires { ⌜ a < 128 ⌝ }
-    requires { ⌜ b < 128 ⌝ }
+    requires { ⌜ planLength ≤ length (now plan) ⌝ }
+    requires { ⌜ r < mostRows ⌝ }
+    requires { ⌜ a < mostRows ⌝ }
+    requires { ⌜ b < mostRows ⌝ }
     requires { ⌜ wordA (row (now plan) a) ≤ 16 ⌝ }
     requires { ⌜ wordA (row (now plan) b) ≤ 16 ⌝ }
     ensures { λ _. ⌜
@@ -159,8 +160,8 @@ fn put_product_of_products(plan: &mut [u64], r: usize, a: usize, b: usize)
 
 // Constants 1 and 0 first, then sum chains, then product chains; anything else stays a row.
 pub fn fold_product(plan: &mut [u64], left: usize, middle: usize, end: usize) -> usize
-    requires { ⌜ 2561 ≤ length (now plan) ⌝ }
-    requires { ⌜ end < 128 ⌝ }
+    requires { ⌜ planLength ≤ length (now plan) ⌝ }
+    requires { ⌜ end < mostRows ⌝ }
     requires { ⌜ Two (now plan) left middle end ⌝ }
     ensures { λ r. ⌜ FoldsBoth (foldProduct 64) (now (plan .entry)) left middle end r (now (plan .exit)) ⌝ }
 {

@@ -8,6 +8,7 @@ use native.Mathlib.Omega.{arith}
 use lib.Dec.{eqb, ltb}
 use lib.ListN.{length, getD, take}
 use borrow.Author.Tests.{ne-eqb}
+use Rattle.plan.specs.Measures.{rowStart}
 use Rattle.chain.specs.Chain.{row}
 use Rattle.chain.specs.Chain as Chain
 use Rattle.chain.proofs.Trimming.{take-trimmed, length-trimmed-some}
@@ -57,12 +58,12 @@ product-trimmed n (a ∷ f) h other = rw (ne-eqb a 0 other) (product-row n (Chai
 
 -- Row r of a plan, moved down.
 pub lowered-row : (p : List ℕ) (r : ℕ) {a b : ℕ} {e : List ℕ}
-    → a ≡ cond (ltb 0 (operandCount (getD p (1 + 20 * r) 0))) (getD p (1 + 20 * r + 1) 0 - 1) (getD p (1 + 20 * r + 1) 0)
-    → b ≡ cond (eqb (operandCount (getD p (1 + 20 * r) 0)) 2) (getD p (1 + 20 * r + 2) 0 - 1) (getD p (1 + 20 * r + 2) 0)
+    → a ≡ cond (ltb 0 (operandCount (getD p (rowStart r) 0))) (getD p (rowStart r + 1) 0 - 1) (getD p (rowStart r + 1) 0)
+    → b ≡ cond (eqb (operandCount (getD p (rowStart r) 0)) 2) (getD p (rowStart r + 2) 0 - 1) (getD p (rowStart r + 2) 0)
     → e ≡ elements (Plan.row p r)
-    → getD p (1 + 20 * r) 0 ∷ a ∷ b ∷ e ≡ lowered (Plan.row p r)
+    → getD p (rowStart r) 0 ∷ a ∷ b ∷ e ≡ lowered (Plan.row p r)
 lowered-row p r {a} {b} {e} ha hb he =
-    rw (kind-at p r, word-at p r 1 (omega arith), word-at p r 2 (omega arith)) (ends (getD p (1 + 20 * r) 0) ha hb he)
+    rw (kind-at p r, word-at p r 1 (omega arith), word-at p r 2 (omega arith)) (ends (getD p (rowStart r) 0) ha hb he)
   where
     ends : (k : ℕ) {a a′ b b′ : ℕ} {e e′ : List ℕ} → a ≡ a′ → b ≡ b′ → e ≡ e′ → k ∷ a ∷ b ∷ e ≡ k ∷ a′ ∷ b′ ∷ e′
     ends k ha hb he = λ i. k ∷ ha i ∷ hb i ∷ he i

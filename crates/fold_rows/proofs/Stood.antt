@@ -9,6 +9,7 @@ use lib.Dec.{eqb, ltb}
 use lib.ListN.{length, getD, take, drop, length-append, length-drop, take-append-drop, length-map}
 use lib.Seq.{take-at, drop-at, getD-at, take-take, take-add, take-suc, take-length, drop-drop, length-take-le, take-append-seam, drop-append-seam}
 use borrow.Author.Tests.{lt-ltb, le-ltb, eq-eqb, ne-eqb}
+use Rattle.plan.specs.Measures.{rowLength, rowStart}
 use Rattle.chain.specs.Chain as Chain
 use Rattle.plan.specs.Row.{Row, kind, wordA, elements, kindFacts}
 use Rattle.plan.specs.Plan as Plan
@@ -19,8 +20,8 @@ use Rattle.fold.specs.Folded.{Folded, constant, sumChain, productChain, sumRow,
 use Rattle.fold.specs.Folded.{isConstant, isSumChain, isProductChain, ofSum, ofProduct}
 use Rattle.fold.specs.Folding.{wordOf, is, isSum}
 use Rattle.fold.specs.Layout.{rowCount, rowWords, rootRow, behindBoth, rowsFrom, wordsOf}
-use Rattle.fold.proofs.ReadBack.{Twenty, cut-rows, twenty-append, rows-of, some-rows}
-use Rattle.fold_rows.specs.Standing.{rowStart, withWords, withRow, Stands, placed, lowered, movedDown}
+use Rattle.fold.proofs.ReadBack.{FullRows, cut-rows, full-append, rows-of, some-rows}
+use Rattle.fold_rows.specs.Standing.{withWords, withRow, Stands, placed, lowered, movedDown}
 use Rattle.fold_rows.proofs.Placing.{chainWords, sum-row, product-row}
 
 -- ---- rows of 20 words and their words
@@ -33,39 +34,39 @@ words-behind : (f : List Row) (row : Row) → wordsOf (f ++ row ∷ []) ≡ word
 unfolding wordsOf
 words-behind f row = words-both f (row ∷ []) ∙ ap (λ l. wordsOf f ++ l) (append-nil row)
 
-words-count : (f : List Row) → Twenty f → length (wordsOf f) ≡ 20 * length f
-unfolding wordsOf Twenty
+words-count : (f : List Row) → FullRows f → length (wordsOf f) ≡ rowLength * length f
+unfolding wordsOf FullRows
 words-count [] h = refl
 words-count (row ∷ f) h = length-append row (wordsOf f) ∙ ap₂ _+_ (h .0) (words-count f (h .1)) ∙ omega arith
 
-pub length-words : (n : ℕ) (a : Folded) → length (wordsOf (rowsFrom n a)) ≡ 20 * rowCount a
-length-words n a = words-count (rowsFrom n a) (rows-of n a .twenty) ∙ ap (λ k. 20 * k) (rows-of n a .count)
+pub length-words : (n : ℕ) (a : Folded) → length (wordsOf (rowsFrom n a)) ≡ rowLength * rowCount a
+length-words n a = words-count (rowsFrom n a) (rows-of n a .full) ∙ ap (λ k. rowLength * k) (rows-of n a .count)
 
 -- ---- rows that stand in a plan from row n on
 abbrev Holds : List ℕ → ℕ → List Row → Type 0
-Holds p n f = take (20 * length f) (drop (rowStart n) p) ≡ wordsOf f
+Holds p n f = take (rowLength * length f) (drop (rowStart n) p) ≡ wordsOf f
 
-row-held : (p : List ℕ) (n : ℕ) (f : List Row) → Twenty f → Holds p n f → (i : ℕ) → i < length f → Plan.row p (n + i) ≡ getD f i []
-row-held p n f twenty h i within =
+row-held : (p : List ℕ) (n : ℕ) (f : List Row) → FullRows f → Holds p n f → (i : ℕ) → i < length f → Plan.row p (n + i) ≡ getD f i []
+row-held p n f full h i within =
     row-at p (n + i)
-    ∙ ap (take 20) (drop-drop (20 * (n + i)) 1 p ∙ ap (λ k. drop k p) place ∙ sym (drop-drop (20 * i) (rowStart n) p))
+    ∙ ap (take rowLength) (drop-drop (rowLength * (n + i)) 1 p ∙ ap (λ k. drop k p) place ∙ sym (drop-drop (rowLength * i) (rowStart n) p))
     ∙ sym (row-at (0 ∷ drop (rowStart n) p) i)
     ∙ sym (earlier-row (0 ∷ drop (rowStart n) p) (length f) i within)
-    ∙ ap (λ l. getD (Plan.rowsFrom (length f) l) i []) (sym (take-append-drop (20 * length f) (drop (rowStart n) p)) ∙ ap (λ l. l ++ rest) h)
-    ∙ ap (λ g. getD g i []) (cut-rows f rest twenty)
+    ∙ ap (λ l. getD (Plan.rowsFrom (length f) l) i []) (sym (take-append-drop (rowLength * length f) (drop (rowStart n) p)) ∙ ap (λ l. l ++ rest) h)
+    ∙ ap (λ g. getD g i []) (cut-rows f rest full)
   where
-    place : 1 + 20 * (n + i) ≡ 1 + 20 * n + 20 * i
+    place : rowStart (n + i) ≡ rowStart n + rowLength * i
     place = omega arith
 
     rest : List ℕ
-    rest = drop (20 * length f) (drop (rowStart n) p)
+    rest = drop (rowLength * length f) (drop (rowStart n) p)
 
 holds-tree : (p : List ℕ) (n : ℕ) (a : Folded) → Stands p n a → Holds p n (rowsFrom n a)
-holds-tree p n a h = ap (λ k. take (20 * k) (drop (rowStart n) p)) (rows-of n a .count) ∙ h
+holds-tree p n a h = ap (λ k. take (rowLength * k) (drop (rowStart n) p)) (rows-of n a .count) ∙ h
 
 -- Row i of a tree that stands from row n on.
 pub row-stands : (p : List ℕ) (n : ℕ) (a : Folded) → Stands p n a → (i : ℕ) → i < rowCount a → Plan.row p (n + i) ≡ getD (rowsFrom n a) i []
-row-stands p n a h i within = row-held p n (rowsFrom n a) (rows-of n a .twenty) (holds-tree p n a h) i (rw (rows-of n a .count) within)
+row-stands p n a h i within = row-held p n (rowsFrom n a) (rows-of n a .full) (holds-tree p n a h) i (rw (rows-of n a .count) within)
 
 pub root-stands : (p : List ℕ) (n : ℕ) (a : Folded) → Stands p n a → Plan.row p (n + rowCount a - 1) ≡ getD (rowsFrom n a) (rowCount a - 1) []
 root-stands p n a h = ap (Plan.row p) place ∙ row-stands p n a h (rowCount a - 1) (omega (arith, some-rows a))
@@ -321,38 +322,38 @@ length-with p at new room =
 
 -- ---- an operator's row behind its operands
 -- A row behind rows that stand.
-row-behind : (p : List ℕ) (n e : ℕ) (f : List Row) (row : Row) → rowStart n ≤ length p → Twenty f → Holds p n f → e ≡ n + length f
+row-behind : (p : List ℕ) (n e : ℕ) (f : List Row) (row : Row) → rowStart n ≤ length p → FullRows f → Holds p n f → e ≡ n + length f
     → withRow p e row ≡ withWords p (rowStart n) (wordsOf (f ++ row ∷ []))
-row-behind p n e f row room twenty h place =
+row-behind p n e f row room full h place =
     ap₂ (λ q at. withWords q at row) (sym (words-again p (rowStart n) (wordsOf f) held)) start
     ∙ words-behind-words p (rowStart n) (wordsOf f) room row
     ∙ ap (withWords p (rowStart n)) (sym (words-behind f row))
   where
     held : take (length (wordsOf f)) (drop (rowStart n) p) ≡ wordsOf f
-    held = ap (λ k. take k (drop (rowStart n) p)) (words-count f twenty) ∙ h
+    held = ap (λ k. take k (drop (rowStart n) p)) (words-count f full) ∙ h
 
     start : rowStart e ≡ rowStart n + length (wordsOf f)
-    start = omega (arith, words-count f twenty)
+    start = omega (arith, words-count f full)
 
 -- Rows that stand one behind the other.
 holds-both : (p : List ℕ) (n : ℕ) (f g : List Row) → Holds p n f → Holds p (n + length f) g → Holds p n (f ++ g)
 holds-both p n f g h k =
     ap (λ m. take m (drop (rowStart n) p)) count
-    ∙ take-add (20 * length f) (20 * length g) (drop (rowStart n) p)
-    ∙ ap₂ _++_ h (ap (take (20 * length g)) (drop-drop (20 * length f) (rowStart n) p ∙ ap (λ m. drop m p) place) ∙ k)
+    ∙ take-add (rowLength * length f) (rowLength * length g) (drop (rowStart n) p)
+    ∙ ap₂ _++_ h (ap (take (rowLength * length g)) (drop-drop (rowLength * length f) (rowStart n) p ∙ ap (λ m. drop m p) place) ∙ k)
     ∙ sym (words-both f g)
   where
-    count : 20 * length (f ++ g) ≡ 20 * length f + 20 * length g
+    count : rowLength * length (f ++ g) ≡ rowLength * length f + rowLength * length g
     count = omega (arith, length-append f g)
 
-    place : 1 + 20 * n + 20 * length f ≡ 1 + 20 * (n + length f)
+    place : rowStart n + rowLength * length f ≡ rowStart (n + length f)
     place = omega arith
 
 module _ (p : List ℕ) (n e : ℕ) (a : Folded) (room : rowStart n ≤ length p) (left : Stands p n a) where
   behind-one : (k b : ℕ) → e ≡ n + rowCount a
       → withRow p e (rowWords k (e - 1) b []) ≡ withWords p (rowStart n) (wordsOf (rowsFrom n a ++ rowWords k (rootRow n a) b [] ∷ []))
   behind-one k b place =
-      row-behind p n e (rowsFrom n a) (rowWords k (e - 1) b []) room (rows-of n a .twenty) (holds-tree p n a left) (omega (arith, rows-of n a .count))
+      row-behind p n e (rowsFrom n a) (rowWords k (e - 1) b []) room (rows-of n a .full) (holds-tree p n a left) (omega (arith, rows-of n a .count))
       ∙ ap (λ m. withWords p (rowStart n) (wordsOf (rowsFrom n a ++ rowWords k (m - 1) b [] ∷ []))) place
 
   pub minus-placed : e ≡ n + rowCount a → withRow p e (rowWords 6 (e - 1) 0 []) ≡ placed p n (minusRow a)
@@ -369,7 +370,7 @@ module _ (p : List ℕ) (n e : ℕ) (a : Folded) (room : rowStart n ≤ length p
         ≡ withWords p (rowStart n) (wordsOf (behindBoth n k a b (rowsFrom n a) (rowsFrom (n + rowCount a) b)))
     behind-both k =
         row-behind p n e rows (rowWords k (n + rowCount a - 1) (e - 1) []) room
-        (twenty-append (rowsFrom n a) (rowsFrom (n + rowCount a) b) (rows-of n a .twenty) (rows-of (n + rowCount a) b .twenty))
+        (full-append (rowsFrom n a) (rowsFrom (n + rowCount a) b) (rows-of n a .full) (rows-of (n + rowCount a) b .full))
         (holds-both p n (rowsFrom n a) (rowsFrom (n + rowCount a) b) (holds-tree p n a left) second) end
         ∙ ap (λ m. withWords p (rowStart n) (wordsOf (rows ++ rowWords k (n + rowCount a - 1) (m - 1) [] ∷ []))) place
       where
@@ -425,33 +426,33 @@ module _ (p : List ℕ) (n : ℕ) (a : Folded) where
     placed-after = words-later p (rowStart n) (wordsOf (rowsFrom n a)) room (rowStart (n + rowCount a)) (omega (arith, end))
 
     pub earlier-stands : (m : ℕ) (b : Folded) → m + rowCount b ≤ n → Stands p m b → Stands (placed p n a) m b
-    earlier-stands m b h s = words-earlier p (rowStart n) (wordsOf (rowsFrom n a)) room (rowStart m) (20 * rowCount b) (omega arith) ∙ s
+    earlier-stands m b h s = words-earlier p (rowStart n) (wordsOf (rowsFrom n a)) room (rowStart m) (rowLength * rowCount b) (omega arith) ∙ s
 
 -- ---- rows moved down by one
-twenty-first : (i : ℕ) (f : List Row) → Twenty f → Twenty (take i f)
-unfolding Twenty
-twenty-first zero f h = tt
-twenty-first (suc i) [] h = tt
-twenty-first (suc i) (row ∷ f) h = (h .0, twenty-first i f (h .1))
+full-first : (i : ℕ) (f : List Row) → FullRows f → FullRows (take i f)
+unfolding FullRows
+full-first zero f h = tt
+full-first (suc i) [] h = tt
+full-first (suc i) (row ∷ f) h = (h .0, full-first i f (h .1))
 
 -- Rows, each lowered.
 abbrev pub allLowered : List Row → List Row
 allLowered f = map (λ (row : Row). lowered row) f
 
-twenty-lowered : (f : List Row) → Twenty f → Twenty (allLowered f)
-unfolding Twenty
-twenty-lowered [] h = tt
-twenty-lowered (row ∷ f) h = (ap (λ k. suc (suc (suc k))) (length-drop 3 row ∙ ap (λ k. k - 3) (h .0)), twenty-lowered f (h .1))
+full-lowered : (f : List Row) → FullRows f → FullRows (allLowered f)
+unfolding FullRows
+full-lowered [] h = tt
+full-lowered (row ∷ f) h = (ap (λ k. suc (suc (suc k))) (length-drop 3 row ∙ ap (λ k. k - 3) (h .0)), full-lowered f (h .1))
 
 -- Rows that stand from row n + 1 on: after i moves the first i of them stand lowered from row n on, and the others where they stood.
-module _ (p : List ℕ) (n : ℕ) (f : List Row) (room : rowStart n ≤ length p) (twenty : Twenty f) (h : Holds p (suc n) f) where
+module _ (p : List ℕ) (n : ℕ) (f : List Row) (room : rowStart n ≤ length p) (full : FullRows f) (h : Holds p (suc n) f) where
   abbrev moved : ℕ → List ℕ
   moved i = wordsOf (allLowered (take i f))
 
-  moved-count : (i : ℕ) → i ≤ length f → length (moved i) ≡ 20 * i
+  moved-count : (i : ℕ) → i ≤ length f → length (moved i) ≡ rowLength * i
   moved-count i within =
-      words-count (allLowered (take i f)) (twenty-lowered (take i f) (twenty-first i f twenty))
-      ∙ ap (λ k. 20 * k) (length-map (take i f) (λ (row : Row). lowered row) ∙ length-take-le i f within)
+      words-count (allLowered (take i f)) (full-lowered (take i f) (full-first i f full))
+      ∙ ap (λ k. rowLength * k) (length-map (take i f) (λ (row : Row). lowered row) ∙ length-take-le i f within)
 
   moved-more : (i : ℕ) → i < length f → moved (suc i) ≡ moved i ++ lowered (getD f i [])
   moved-more i within =
@@ -462,10 +463,10 @@ module _ (p : List ℕ) (n : ℕ) (f : List Row) (room : rowStart n ≤ length p
   next-untouched : (i : ℕ) → i < length f → Plan.row (withWords p (rowStart n) (moved i)) (suc n + i) ≡ getD f i []
   next-untouched i within =
       row-part (withWords p (rowStart n) (moved i)) (suc n + i)
-      ∙ ap (take (rowStart (suc n + i) + 20 - rowStart (suc n + i)))
+      ∙ ap (take (rowStart (suc n + i) + rowLength - rowStart (suc n + i)))
       (words-later p (rowStart n) (moved i) room (rowStart (suc n + i)) (omega (arith, moved-count i (omega arith))))
       ∙ sym (row-part p (suc n + i))
-      ∙ row-held p (suc n) f twenty h i within
+      ∙ row-held p (suc n) f full h i within
 
   moved-to : (i : ℕ) → i ≤ length f → movedDown (suc n) i p ≡ withWords p (rowStart n) (moved i)
   unfolding movedDown wordsOf
@@ -528,5 +529,5 @@ rows-lowered n (raiseRow a b) = lowered-both n 8 a (rows-lowered n a) b (rows-lo
 pub moved-placed : (p : List ℕ) (n : ℕ) (a : Folded) → rowStart n ≤ length p → Stands p (suc n) a → movedDown (suc n) (rowCount a) p ≡ placed p n a
 moved-placed p n a room h =
     ap (λ k. movedDown (suc n) k p) (sym (rows-of (suc n) a .count))
-    ∙ moved-all p n (rowsFrom (suc n) a) room (rows-of (suc n) a .twenty) (holds-tree p (suc n) a h)
+    ∙ moved-all p n (rowsFrom (suc n) a) room (rows-of (suc n) a .full) (holds-tree p (suc n) a h)
     ∙ ap (λ f. withWords p (rowStart n) (wordsOf f)) (rows-lowered n a)

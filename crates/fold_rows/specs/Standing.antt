@@ -5,15 +5,12 @@ use mathlib.Core.List.{List, [], _∷_, _++_}
 use Prim.Native.Nat.{ℕ, zero, suc, _+_, _-_, _*_}
 use lib.Dec.{eqb, ltb}
 use lib.ListN.{length, take, drop}
+use Rattle.plan.specs.Measures.{rowLength, rowStart}
 use Rattle.chain.specs.Chain.{value, rest}
 use Rattle.plan.specs.Row.{Row, kind, wordA, wordB, elements, operandCount}
 use Rattle.plan.specs.Plan.{row}
 use Rattle.fold.specs.Folded.{Folded}
 use Rattle.fold.specs.Layout.{rowCount, rowsFrom, wordsOf}
-
--- The first word of row n. "Row r has the 20 words from 1 + 20r."
-abbrev pub rowStart : ℕ → ℕ
-rowStart n = 1 + 20 * n
 
 -- A plan with other words from a place on.
 abbrev pub withWords : List ℕ → ℕ → List ℕ → List ℕ
@@ -24,7 +21,7 @@ withRow p r new = withWords p (rowStart r) new
 
 -- The rows of a stand in p from row n on.
 abbrev pub Stands : List ℕ → ℕ → Folded → Type 0
-Stands p n a = take (20 * rowCount a) (drop (rowStart n) p) ≡ wordsOf (rowsFrom n a)
+Stands p n a = take (rowLength * rowCount a) (drop (rowStart n) p) ≡ wordsOf (rowsFrom n a)
 
 -- p with the rows of a put there.
 abbrev pub placed : List ℕ → ℕ → Folded → List ℕ

@@ -9,14 +9,15 @@ ghost use mathlib.Core.List.{_∷_};
 ghost use Prim.Native.Nat.{_≤_, _<_};
 ghost use lib.Dec.{eqb};
 ghost use lib.ListN.{length};
+ghost use Rattle.plan.specs.Measures.{planLength, rowLength, mostRows};
 ghost use Rattle.plan.specs.Row.{elements};
 ghost use Rattle.plan.specs.Plan.{row};
 ghost use Rattle.fold_rows.specs.Standing.{withRow};
 
 // The 17 element words of row r.
 pub fn elements(plan: &[u64], r: usize) -> [u64; 17]
-    requires { ⌜ 2561 ≤ length (now plan) ⌝ }
-    requires { ⌜ r < 128 ⌝ }
+    requires { ⌜ planLength ≤ length (now plan) ⌝ }
+    requires { ⌜ r < mostRows ⌝ }
     ensures { λ e. ⌜ e ≡ elements (row (now (plan .entry)) r) ⌝ }
 {
     let first = 4 + 20 * r;
@@ -31,7 +32,7 @@ pub fn elements(plan: &[u64], r: usize) -> [u64; 17]
 
 // The 20 words of a row, or of anything that is laid out as one.
 pub fn write_row(row: &mut [u64], kind: u64, a: u64, b: u64, elements: [u64; 17])
-    requires { ⌜ length (now row) ≡ 20 ⌝ }
+    requires { ⌜ length (now row) ≡ rowLength ⌝ }
     ensures { λ _. ⌜ now (row .exit) ≡ kind ∷ a ∷ b ∷ elements ⌝ }
 {
     row[0] = kind;
@@ -46,8 +47,8 @@ pub fn write_row(row: &mut [u64], kind: u64, a: u64, b: u64, elements: [u64; 17]
 
 // Row r written anew.
 pub fn write(plan: &mut [u64], r: usize, kind: u64, a: u64, b: u64, elements: [u64; 17])
-    requires { ⌜ 2561 ≤ length (now plan) ⌝ }
-    requires { ⌜ r < 128 ⌝ }
+    requires { ⌜ planLength ≤ length (now plan) ⌝ }
+    requires { ⌜ r < mostRows ⌝ }
     ensures { λ _. ⌜ now (plan .exit) ≡ withRow (now (plan .entry)) r (kind ∷ a ∷ b ∷ elements) ⌝ }
 {
     let at = 1 + 20 * r;
@@ -66,8 +67,8 @@ fn kind_of(chain: u64, last: usize) -> u64
 
 // The row of a chain of the given kind with the elements 0 to last, or of a constant.
 pub fn put_chain(plan: &mut [u64], r: usize, chain: u64, last: usize, elements: [u64; 17])
-    requires { ⌜ 2561 ≤ length (now plan) ⌝ }
-    requires { ⌜ r < 128 ⌝ }
+    requires { ⌜ planLength ≤ length (now plan) ⌝ }
+    requires { ⌜ r < mostRows ⌝ }
     ensures { λ _. ⌜ now (plan .exit) ≡ withRow (now (plan .entry)) r (cond (eqb last 0) 0 chain ∷ last ∷ 0 ∷ elements) ⌝ }
 {
     let kind = kind_of(chain, last);

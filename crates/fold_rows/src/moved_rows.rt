@@ -7,6 +7,7 @@ ghost use mathlib.Core.Bool.{cond};
 ghost use Prim.Native.Nat.{_-_, _≤_, _<_};
 ghost use lib.Dec.{eqb, ltb};
 ghost use lib.ListN.{length};
+ghost use Rattle.plan.specs.Measures.{planLength, mostRows};
 ghost use Rattle.plan.specs.Row.{operandCount};
 ghost use Rattle.plan.specs.Plan.{row};
 ghost use Rattle.fold_rows.specs.Standing.{withRow, lowered, movedDown};
@@ -51,9 +52,9 @@ fn lowered_b(kind: u64, b: u64) -> u64
 }
 
 fn move_row(plan: &mut [u64], r: usize)
-    requires { ⌜ 2561 ≤ length (now plan) ⌝ }
+    requires { ⌜ planLength ≤ length (now plan) ⌝ }
     requires { ⌜ 1 ≤ r ⌝ }
-    requires { ⌜ r < 128 ⌝ }
+    requires { ⌜ r < mostRows ⌝ }
     ensures { λ _. ⌜ now (plan .exit) ≡ withRow (now (plan .entry)) (r - 1) (lowered (row (now (plan .entry)) r)) ⌝ }
 {
     let at = 1 + 20 * r;
@@ -66,10 +67,10 @@ fn move_row(plan: &mut [u64], r: usize)
 
 // The rows from first up to end, each moved down by one.
 pub fn move_down(plan: &mut [u64], first: usize, end: usize)
-    requires { ⌜ 2561 ≤ length (now plan) ⌝ }
+    requires { ⌜ planLength ≤ length (now plan) ⌝ }
     requires { ⌜ 1 ≤ first ⌝ }
     requires { ⌜ first ≤ end ⌝ }
-    requires { ⌜ end ≤ 128 ⌝ }
+    requires { ⌜ end ≤ mostRows ⌝ }
     ensures { λ _. ⌜ now (plan .exit) ≡ movedDown first (end - first) (now (plan .entry)) ⌝ }
 {
     let mut r = first;

@@ -3,6 +3,7 @@
 ghost use mathlib.Core.Path.{_≡_};
 ghost use Prim.Native.Nat.{_+_, _≤_, _<_};
 ghost use lib.ListN.{length, take};
+ghost use Rattle.plan.specs.Measures.{planLength, mostRows};
 ghost use Rattle.fold.specs.Folded.{trimmedProduct};
 ghost use Rattle.fold_rows.specs.Standing.{filledWithOnes, placed};
 
@@ -22,8 +23,8 @@ pub fn with_ones(elements: [u64; 17], last: usize) -> [u64; 17]
 
 // The row of a product chain of 17 elements, trimmed; with a first element 0 it is the constant 0.
 pub fn put_product(plan: &mut [u64], r: usize, elements: [u64; 17])
-    requires { ⌜ 2561 ≤ length (now plan) ⌝ }
-    requires { ⌜ r < 128 ⌝ }
+    requires { ⌜ planLength ≤ length (now plan) ⌝ }
+    requires { ⌜ r < mostRows ⌝ }
     ensures { λ _. ⌜ now (plan .exit) ≡ placed (now (plan .entry)) r (trimmedProduct elements) ⌝ }
 {
     if elements[0] == 0 {

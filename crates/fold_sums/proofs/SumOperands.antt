@@ -7,6 +7,7 @@ use native.Mathlib.Omega.{arith}
 use lib.Dec.{eqb, ltb}
 use lib.ListN.{length, getD, take, set}
 use borrow.Author.Tests.{ltb-true}
+use Rattle.plan.specs.Measures.{rowStart}
 use Rattle.word.specs.Word as Word
 use Rattle.chain.specs.Chain.{trimmed, row}
 use Rattle.chain.specs.SumChain.{difference}
@@ -20,7 +21,7 @@ use Rattle.fold.specs.Folded as Folded
 use Rattle.fold.specs.Folded.{Folded, trimmedProduct}
 use Rattle.fold.specs.Folding.{wordOf, is, foldMinus}
 use Rattle.fold.specs.Layout.{rowCount, rowWords, rowsFrom, wordsOf}
-use Rattle.fold_rows.specs.Standing.{rowStart, withRow, placed, filledWithOnes, movedDown}
+use Rattle.fold_rows.specs.Standing.{withRow, placed, filledWithOnes, movedDown}
 use Rattle.fold_rows.proofs.Stood.{kindOf, sum-test, length-words, words-before, words-later, placed-again}
 use Rattle.fold_operands.specs.Operands.{Operand, Operands, Left, Folds}
 use Rattle.fold_operands.proofs.OperandLaws.{constantAt, operand-kind, operand-last, operand-elements, operand-chain, operand-taken, operand-is, sum-operand}

@@ -15,6 +15,7 @@ ghost use mathlib.Core.Bool.{_&&_};
 ghost use Prim.Native.Nat.{_≤_, _<_};
 ghost use lib.Dec.{ltb};
 ghost use lib.ListN.{length};
+ghost use Rattle.plan.specs.Measures.{planLength, mostRows};
 ghost use Rattle.chain.specs.Answer.{answered};
 ghost use Rattle.plan.specs.Row.{kind, wordA, elements};
 ghost use Rattle.plan.specs.Plan.{row};
@@ -23,9 +24,9 @@ ghost use Rattle.fold_sums.specs.ByKind.{SumOrDifference, foldSumOrDiffe
 
 // Both rows are constants or sum chains: kinds 0 and 1.
 fn both_sums(plan: &[u64], a: usize, b: usize) -> bool
-    requires { ⌜ 2561 ≤ length (now plan) ⌝ }
-    requires { ⌜ a < 128 ⌝ }
-    requires { ⌜ b < 128 ⌝ }
+    requires { ⌜ planLength ≤ length (now plan) ⌝ }
+    requires { ⌜ a < mostRows ⌝ }
+    requires { ⌜ b < mostRows ⌝ }
     ensures { λ s. ⌜ s ≡ (ltb (kind (row (now (plan .entry)) a)) 2 && ltb (kind (row (now (plan .entry)) b)) 2) ⌝ }
 {
     if kind(plan, a) < 2 {
@@ -36,9 +37,9 @@ fn both_sums(plan: &[u64], a: usize, b: usize) -> bool
 
 // The chains of two rows, a constant standing as f0: "element by element", "and the same under -".
 fn chain_of_both(plan: &[u64], kind: u64, a: usize, b: usize) -> ChainAnswer
-    requires { ⌜ 2561 ≤ length (now plan) ⌝ }
-    requires { ⌜ a < 128 ⌝ }
-    requires { ⌜ b < 128 ⌝ }
+    requires { ⌜ planLength ≤ length (now plan) ⌝ }
+    requires { ⌜ a < mostRows ⌝ }
+    requires { ⌜ b < mostRows ⌝ }
     ensures { λ r. ⌜ r ≡ answered (bothOutcome 64 kind (elements (row (now (plan .entry)) a)) (wordA (row (now (plan .entry)) a))
         (elements (row (now (plan .entry)) b)) (wordA (row (now (plan .entry)) b))) ⌝ }
 {
@@ -54,8 +55,8 @@ fn chain_of_both(plan: &[u64], kind: u64, a: usize, b: usize) -> ChainAnswer
 
 // The operand alone, behind the constant 0: "0+A: A", "0-A: as minus A".
 fn fold_alone(plan: &mut [u64], kind: u64, first: usize, end: usize) -> usize
-    requires { ⌜ 2561 ≤ length (now plan) ⌝ }
-    requires { ⌜ end < 128 ⌝ }
+    requires { ⌜ planLength ≤ length (now plan) ⌝ }
+    requires { ⌜ end < mostRows ⌝ }
     requires { ⌜ One (now plan) first end ⌝ }
     ensures { λ r. ⌜ Folds (foldAlone 64 kind) (now (plan .entry)) first end r (now (plan .exit)) ⌝ }
 {
@@ -68,8 +69,8 @@ fn fold_alone(plan: &mut [u64], kind: u64, first: usize, end: usize) -> usize
 // The operand before row middle plus the one behind it, kind 3, or less it, kind 4: "C+S, S+C, S+S, and the same under -: element by
 // element", "A+0, 0+A, A-0: A", "0-A: as minus A".
 pub fn fold_sum(plan: &mut [u64], kind: u64, left: usize, middle: usize, end: usize) -> usize
-    requires { ⌜ 2561 ≤ length (now plan) ⌝ }
-    requires { ⌜ end < 128 ⌝ }
+    requires { ⌜ planLength ≤ length (now plan) ⌝ }
+    requires { ⌜ end < mostRows ⌝ }
     requires { ⌜ SumOrDifference kind ⌝ }
     requires { ⌜ Two (now plan) left middle end ⌝ }
     ensures { λ r. ⌜ FoldsBoth (foldSumOrDifference 64 kind) (now (plan .entry)) left middle end r (now (plan .exit)) ⌝ }

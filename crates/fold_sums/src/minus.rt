@@ -7,13 +7,14 @@ use fold_operands::put_sum;
 use fold_rows::product_rows;
 ghost use Prim.Native.Nat.{_≤_, _<_};
 ghost use lib.ListN.{length};
+ghost use Rattle.plan.specs.Measures.{planLength, mostRows};
 ghost use Rattle.fold.specs.Folding.{foldMinus};
 ghost use Rattle.fold_operands.specs.Operands.{One, Folds};
 
 // Minus the operand from row first up to row end: "minus S: every element; minus P: f0 only."
 pub fn fold_minus(plan: &mut [u64], first: usize, end: usize) -> usize
-    requires { ⌜ 2561 ≤ length (now plan) ⌝ }
-    requires { ⌜ end < 128 ⌝ }
+    requires { ⌜ planLength ≤ length (now plan) ⌝ }
+    requires { ⌜ end < mostRows ⌝ }
     requires { ⌜ One (now plan) first end ⌝ }
     ensures { λ r. ⌜ Folds (foldMinus 64) (now (plan .entry)) first end r (now (plan .exit)) ⌝ }
 {

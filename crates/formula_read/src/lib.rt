@@ -11,7 +11,7 @@ ghost use Prim.Native.Nat.{_≤_};
 ghost use lib.Dec.{ltb};
 ghost use lib.ListN.{length, drop};
 ghost use Rattle.formula.specs.Tree.{Tree};
-ghost use Rattle.formula.specs.Words.{treeWords};
+ghost use Rattle.formula.specs.Words.{treeWords, treeLength, mostNodes};
 ghost use Rattle.formula.specs.Refusals.{Accepted, Reading};
 ghost use Rattle.formula_scan.specs.Readers.{faultCode, noFault, Judged};
 
@@ -28,7 +28,7 @@ const TOO_MANY: u64 = 14336;
 
 // Refusal 7 for more nodes than a tree holds.
 fn nodes_fault(nodes: usize) -> u64
-    ensures { λ r. ⌜ r ≡ cond (ltb 128 nodes) (faultCode 7 0) noFault ⌝ }
+    ensures { λ r. ⌜ r ≡ cond (ltb mostNodes nodes) (faultCode 7 0) noFault ⌝ }
 {
     if MOST_NODES < nodes {
         return TOO_MANY;
@@ -75,8 +75,8 @@ fn judged(text: &[u8]) -> ReadAnswer
 
 // The words of an accepted text's tree.
 fn write(text: &[u8], tree: &mut [u64])
-    requires { ⌜ 257 ≤ length (now tree) ⌝ }
-    ensures { λ _. ⌜ ((t : Tree) → Accepted 64 (now (text .entry)) t → now (tree .exit) ≡ treeWords t ++ drop 257 (now (tree .entry))) ⌝ }
+    requires { ⌜ treeLength ≤ length (now tree) ⌝ }
+    ensures { λ _. ⌜ ((t : Tree) → Accepted 64 (now (text .entry)) t → now (tree .exit) ≡ treeWords t ++ drop treeLength (now (tree .entry))) ⌝ }
 {
     word::clear(&mut tree[0..257]);
     let sum = formula_readers::read_sum(text, &mut tree[1..257], 0, 0, NO_FAULT);

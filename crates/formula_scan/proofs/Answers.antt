@@ -11,7 +11,7 @@ use Rattle.formula.specs.declared.ReadAnswer.{ReadAnswer}
 use Rattle.formula.specs.Tree.{Tree, number, literalPower, nodes, holdsX}
 use Rattle.formula.specs.Value.{valueFor}
 use Rattle.formula.specs.Refusals.{Part, number-over, exponent-over, too-many, x-in-base, even-base, Refused, Accepted, Reading, too-short, refused, accepted}
-use Rattle.formula.specs.Words.{treeWords}
+use Rattle.formula.specs.Words.{treeWords, treeLength, mostNodes}
 use Rattle.formula_scan.proofs.GrammarScan.{unambiguous}
 use Rattle.formula_scan.proofs.Parity.{OddBases}
 
@@ -41,11 +41,11 @@ reading-unique (refused h A) (accepted k B) = absurd (refused-not-accepted A B)
 reading-unique (accepted h A) (too-short k) = absurd (omega arith)
 reading-unique (accepted h A) (refused k B) = absurd (refused-not-accepted B A)
 reading-unique {lent = lent} (accepted h A) (accepted k B) =
-    (refl, ap (λ t. treeWords t ++ drop 257 lent) (unambiguous (A .means) (B .means)))
+    (refl, ap (λ t. treeWords t ++ drop treeLength lent) (unambiguous (A .means) (B .means)))
 
 -- ---- what an accepted tree has
 pub accepted-fits : {w : ℕ} {s : List ℕ} {t : Tree} → Accepted w s t
-    → ((p v : ℕ) → Part (number p v) t → v < 2 ^ w) × ((a : Tree) (p n : ℕ) → Part (literalPower a p n) t → n ≤ 64) × (nodes t ≤ 128)
+    → ((p v : ℕ) → Part (number p v) t → v < 2 ^ w) × ((a : Tree) (p n : ℕ) → Part (literalPower a p n) t → n ≤ 64) × (nodes t ≤ mostNodes)
 accepted-fits {w} {s} {t} A = (numbers, exponents, few)
   where
     numbers : (p v : ℕ) → Part (number p v) t → v < 2 ^ w
@@ -54,8 +54,8 @@ accepted-fits {w} {s} {t} A = (numbers, exponents, few)
     exponents : (a : Tree) (p n : ℕ) → Part (literalPower a p n) t → n ≤ 64
     exponents a p n k = let h : 64 < n → ⊥ = λ over. A .faultless _ _ (exponent-over (A .means) k over) in omega arith
 
-    few : nodes t ≤ 128
-    few = let h : 128 < nodes t → ⊥ = λ many. A .faultless _ _ (too-many (A .means) many) in omega arith
+    few : nodes t ≤ mostNodes
+    few = let h : mostNodes < nodes t → ⊥ = λ many. A .faultless _ _ (too-many (A .means) many) in omega arith
 
 pub accepted-base : {w : ℕ} {s : List ℕ} {t : Tree} → Accepted w s t → OddBases w t
 accepted-base {w} A a b p k = (without-x (holdsX a) refl, odd)

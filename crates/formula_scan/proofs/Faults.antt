@@ -10,6 +10,7 @@ use native.Mathlib.Omega.{arith}
 use lib.Dec.{eqb, leb, ltb}
 use lib.ListN.{length}
 use borrow.Author.Tests.{eqb-true, eqb-false, leb-true, leb-false, lt-leb, ltb-true, ltb-false, lt-ltb, le-ltb}
+use Rattle.formula.specs.Words.{mostNodes}
 use Rattle.formula.specs.Tree.{Tree, number, variable, sum, difference, product, minus, literalPower, raise, nodes, holdsX}
 use Rattle.formula.specs.Grammar.{Formula}
 use Rattle.formula.specs.Value.{valueFor}
@@ -175,7 +176,7 @@ module _ {s : List ℕ} {t : Tree} (M : Formula s t) where
   code-least (exponent-number-over {p = p} {n} N k h) low = within (faultCode 5 (suc p)) N k (rw (le-ltb n (2 ^ 64) h) (omega arith))
   code-least (exponent-over {p = p} {n} N k h) low = within (faultCode 6 (suc p)) N k (literal-over p n h)
   code-least (too-many N h) low =
-      le-trans (min-le-right (noted t) _) (rw (lt-ltb 128 (nodes t) (subst (λ u. 128 < nodes u) (unambiguous N M) h)) (le-refl (faultCode 7 0)))
+      le-trans (min-le-right (noted t) _) (rw (lt-ltb mostNodes (nodes t) (subst (λ u. mostNodes < nodes u) (unambiguous N M) h)) (le-refl (faultCode 7 0)))
   code-least (x-in-base {p = p} N k h) low = within (faultCode 8 p) N k (rw h (le-refl (faultCode 8 p)))
   code-least (even-base {a = a} {b} {p} N k h) low =
       le-trans (min-le-left (noted t) _) (even-noted (subst (Part (raise a p b)) (unambiguous N M) k) h)
@@ -216,16 +217,16 @@ module _ {s : List ℕ} {t : Tree} (M : Formula s t) where
   node-coded (literalPower a p n) k e = literal-coded k
   node-coded (raise a p b) k e = base-coded k e
 
-  count-coded : Coded s (cond (ltb 128 (nodes t)) (faultCode 7 0) noFault)
-  count-coded = go (ltb 128 (nodes t)) refl
+  count-coded : Coded s (cond (ltb mostNodes (nodes t)) (faultCode 7 0) noFault)
+  count-coded = go (ltb mostNodes (nodes t)) refl
     where
-      go : (h : Bool) → ltb 128 (nodes t) ≡ h → Coded s (cond h (faultCode 7 0) noFault)
-      go true e = known (too-many M (ltb-true 128 (nodes t) e)) refl
+      go : (h : Bool) → ltb mostNodes (nodes t) ≡ h → Coded s (cond h (faultCode 7 0) noFault)
+      go true e = known (too-many M (ltb-true mostNodes (nodes t) e)) refl
       go false e = nothing s
 
   coded : Coded s (code t)
   coded =
-      lesser (Coded s) (noted t) (cond (ltb 128 (nodes t)) (faultCode 7 0) noFault)
+      lesser (Coded s) (noted t) (cond (ltb mostNodes (nodes t)) (faultCode 7 0) noFault)
       (faulted-one 64 (λ c. noted t ≡ c → Coded s c) t noFault (λ e. nothing s) node-coded refl) count-coded
 
 -- ---- refused and accepted by the code

@@ -14,7 +14,7 @@ use Rattle.formula.specs.declared.ReadAnswer.{ReadAnswer}
 use Rattle.formula.specs.Tree.{Tree, nodes}
 use Rattle.formula.specs.Grammar.{Formula}
 use Rattle.formula.specs.Refusals.{TooDeep, Fault, too-long, too-deep, not-grammar, number-over, exponent-number-over, exponent-over, too-many, x-in-base, even-base, Accepted, Reading, refused, accepted}
-use Rattle.formula.specs.Words.{treeWords}
+use Rattle.formula.specs.Words.{treeWords, nodesLength, treeLength}
 use Rattle.formula_scan.specs.Scan.{Byte, plusByte, minusByte, starByte, caretByte, openByte, closeByte, xByte, zeroByte, digitByte, otherByte, byteOf, bottom, fresh, powered, stopped, afterPower, closed, step, sumWith, productWith, negatives, Outcome, reads, stops, ended, ending, run, scanned}
 use Rattle.formula_scan.specs.Readers.{wrote, SumRead, DeepAt, Judged, refuses, accepts}
 use Rattle.formula_scan.proofs.Scanning.{Is, byte-is}
@@ -112,20 +112,20 @@ module _ (l : List ℕ) (f : ℕ) (out : List ℕ) (r : Found) (now : List ℕ) 
       go false e = absurd (clash (r .at) (lost read e bottom))
 
 -- The first 257 words, cleared, put back.
-pub tree-cleared : (lent zeros : List ℕ) → 257 ≤ length lent → zeros ≡ replicate (length (take 257 lent)) 0
-    → zeros ++ drop 257 lent ≡ replicate 257 0 ++ drop 257 lent
-tree-cleared lent zeros h e = ap (λ l. l ++ drop 257 lent) (e ∙ ap (λ n. replicate n 0) (length-take-le 257 lent h))
+pub tree-cleared : (lent zeros : List ℕ) → treeLength ≤ length lent → zeros ≡ replicate (length (take treeLength lent)) 0
+    → zeros ++ drop treeLength lent ≡ replicate treeLength 0 ++ drop treeLength lent
+tree-cleared lent zeros h e = ap (λ l. l ++ drop treeLength lent) (e ∙ ap (λ n. replicate n 0) (length-take-le treeLength lent h))
 
 -- What lies behind a part of a slice, put back.
-pub tree-put-back : (lent cleared part : List ℕ) (count : ℕ) → cleared ≡ replicate 257 0 ++ drop 257 lent
-    → set (take 1 cleared ++ (part ++ drop 256 (drop 1 cleared))) 0 count ≡ count ∷ part ++ drop 257 lent
+pub tree-put-back : (lent cleared part : List ℕ) (count : ℕ) → cleared ≡ replicate treeLength 0 ++ drop treeLength lent
+    → set (take 1 cleared ++ (part ++ drop nodesLength (drop 1 cleared))) 0 count ≡ count ∷ part ++ drop treeLength lent
 tree-put-back lent cleared part count e =
-    ap (λ l. set (take 1 l ++ (part ++ drop 256 (drop 1 l))) 0 count) e
-    ∙ ap (λ l. count ∷ part ++ l) (drop-at (replicate 256 0) (drop 257 lent) 256 (length-replicate {A = ℕ} 256 0))
+    ap (λ l. set (take 1 l ++ (part ++ drop nodesLength (drop 1 l))) 0 count) e
+    ∙ ap (λ l. count ∷ part ++ l) (drop-at (replicate nodesLength 0) (drop treeLength lent) nodesLength (length-replicate {A = ℕ} nodesLength 0))
 
-pub tree-part : (lent cleared : List ℕ) → cleared ≡ replicate 257 0 ++ drop 257 lent → take 256 (drop 1 cleared) ≡ replicate 256 0
+pub tree-part : (lent cleared : List ℕ) → cleared ≡ replicate treeLength 0 ++ drop treeLength lent → take nodesLength (drop 1 cleared) ≡ replicate nodesLength 0
 tree-part lent cleared e =
-    ap (λ l. take 256 (drop 1 l)) e ∙ take-at (replicate 256 0) (drop 257 lent) 256 (length-replicate {A = ℕ} 256 0)
+    ap (λ l. take nodesLength (drop 1 l)) e ∙ take-at (replicate nodesLength 0) (drop treeLength lent) nodesLength (length-replicate {A = ℕ} nodesLength 0)
 
 -- ---- 4: not in the grammar
 module _ (l : List ℕ) (short : length l ≤ 1024) (flat : (q : ℕ) → TooDeep l q → ⊥) where
@@ -156,12 +156,12 @@ fault-number (x-in-base a b c) = omega arith
 fault-number (even-base a b c) = omega arith
 
 -- A refused text alters nothing.
-pub reading-refused : (l lent : List ℕ) (answer : ReadAnswer) → 257 ≤ length lent → Judged 64 l answer → (answer .number ≡ 0 → ⊥)
+pub reading-refused : (l lent : List ℕ) (answer : ReadAnswer) → treeLength ≤ length lent → Judged 64 l answer → (answer .number ≡ 0 → ⊥)
     → Reading 64 l lent answer lent
 reading-refused l lent _ h (refuses r) some = refused h r
 reading-refused l lent _ h (accepts a) some = absurd (some refl)
 
-pub reading-accepted : (l lent : List ℕ) (answer : ReadAnswer) (now : List ℕ) → 257 ≤ length lent → Judged 64 l answer → answer .number ≡ 0
-    → ((t : Tree) → Accepted 64 l t → now ≡ treeWords t ++ drop 257 lent) → Reading 64 l lent answer now
+pub reading-accepted : (l lent : List ℕ) (answer : ReadAnswer) (now : List ℕ) → treeLength ≤ length lent → Judged 64 l answer → answer .number ≡ 0
+    → ((t : Tree) → Accepted 64 l t → now ≡ treeWords t ++ drop treeLength lent) → Reading 64 l lent answer now
 reading-accepted l lent _ now h (refuses r) nought writes = absurd (omega (arith, fault-number (r .applies)))
 reading-accepted l lent _ now h (accepts {t = t} a) nought writes = rw (writes t a) (accepted h a)

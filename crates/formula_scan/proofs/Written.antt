@@ -11,7 +11,7 @@ use lib.ListN.{length, drop, set, replicate, length-append, length-drop, length-
 use lib.Seq.{append-snoc, set-at, drop-drop}
 use borrow.Author.Tests.{lt-ltb, le-ltb}
 use Rattle.formula.specs.Tree.{Tree, number, variable, sum, difference, product, minus, literalPower, raise, nodes}
-use Rattle.formula.specs.Words.{nodeWords, treeWords}
+use Rattle.formula.specs.Words.{nodeWords, treeWords, nodesLength, treeLength, mostNodes}
 use Rattle.formula.specs.Refusals.{Part, itself, sum-left, sum-right, difference-left, difference-right, product-left, product-right, under-minus, under-power, in-base, in-exponent}
 use Rattle.formula_scan.specs.Readers.{kept, put, wrote}
 
@@ -27,7 +27,7 @@ nodes-words (minus a) = simp length-append (omega (arith, nodes-words a))
 nodes-words (literalPower a p n) = simp length-append (omega (arith, nodes-words a))
 nodes-words (raise a p b) = simp length-append (omega (arith, nodes-words a, nodes-words b))
 
-pub length-tree-words : (t : Tree) → nodes t ≤ 128 → length (treeWords t) ≡ 257
+pub length-tree-words : (t : Tree) → nodes t ≤ mostNodes → length (treeWords t) ≡ treeLength
 length-tree-words t few = simp (length-append, length-replicate) (omega (arith, nodes-words t))
 
 -- ---- one node
@@ -118,14 +118,14 @@ drop-replicate zero n a = rw sub-zero
 drop-replicate (suc k) zero a = rw zero-sub
 drop-replicate (suc k) (suc n) a = rw suc-sub-suc (drop-replicate k n a)
 
-module _ (t : Tree) (few : nodes t ≤ 128) (numbers : (p v : ℕ) → Part (number p v) t → v < 2 ^ 64)
+module _ (t : Tree) (few : nodes t ≤ mostNodes) (numbers : (p v : ℕ) → Part (number p v) t → v < 2 ^ 64)
     (exponents : (a : Tree) (p m : ℕ) → Part (literalPower a p m) t → m < 2 ^ 64) where
-  pub written : wrote 64 t 0 (replicate 256 0) ≡ nodeWords t ++ replicate (256 - length (nodeWords t)) 0
+  pub written : wrote 64 t 0 (replicate nodesLength 0) ≡ nodeWords t ++ replicate (nodesLength - length (nodeWords t)) 0
   written =
-      wrote-words 64 t 0 [] (replicate 256 0) refl (omega arith) numbers exponents
-      ∙ ap (λ l. nodeWords t ++ l) (drop-replicate (2 * nodes t) 256 0 ∙ ap (λ k. replicate (256 - k) 0) (sym (nodes-words t)))
+      wrote-words 64 t 0 [] (replicate nodesLength 0) refl (omega arith) numbers exponents
+      ∙ ap (λ l. nodeWords t ++ l) (drop-replicate (2 * nodes t) nodesLength 0 ∙ ap (λ k. replicate (nodesLength - k) 0) (sym (nodes-words t)))
 
-  pub tree-written : nodes t ∷ wrote 64 t 0 (replicate 256 0) ≡ treeWords t
+  pub tree-written : nodes t ∷ wrote 64 t 0 (replicate nodesLength 0) ≡ treeWords t
   tree-written = ap (λ l. nodes t ∷ l) written
 
 -- ---- no word more or less

@@ -6,6 +6,7 @@ use mathlib.Core.List.{List}
 use Prim.Native.Nat.{ℕ, zero, suc, _+_, _-_, _*_, _/_, _%_, _^_, _≤_, _<_, min}
 use lib.Dec.{eqb, leb, ltb}
 use lib.ListN.{length, getD, drop, set}
+use Rattle.formula.specs.Words.{mostNodes}
 use Rattle.formula_scan.specs.declared.Found.{Found}
 use Rattle.formula_scan.specs.declared.Numeral.{Numeral}
 use Rattle.formula.specs.declared.ReadAnswer.{ReadAnswer}
@@ -58,7 +59,7 @@ faulted w (raise a p b) f = faulted w b (min (faulted w a f) (baseFault (holdsX 
 
 -- The least fault of a tree, refusal 7 for its count of nodes among them; `noFault` if there is none.
 abbrev pub code : Tree → ℕ
-code t = min (faulted 64 t noFault) (cond (ltb 128 (nodes t)) (faultCode 7 0) noFault)
+code t = min (faulted 64 t noFault) (cond (ltb mostNodes (nodes t)) (faultCode 7 0) noFault)
 
 -- Node n, its kind and its word, put where there is room for it.
 abbrev pub put : List ℕ → ℕ → ℕ → ℕ → List ℕ

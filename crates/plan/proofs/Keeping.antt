@@ -9,6 +9,7 @@ use lib.Dec.{eqb, ltb}
 use lib.ListN.{length, getD, take, drop, length-map, length-append, take-append-drop, List·getD-map}
 use lib.Seq.{slice, take-add, drop-drop, getD-take, length-front}
 use borrow.Author.Tests.{eqb-true}
+use Rattle.plan.specs.Measures.{planLength, rowLength, mostRows, rowStart}
 use Rattle.chain.specs.Chain.{shift, words}
 use Rattle.chain.specs.SumChain.{sumShift}
 use Rattle.chain.specs.ProductChain.{productShift}
@@ -151,75 +152,75 @@ pub length-from : (w n : ℕ) (f : List ℕ) → length (shiftedFrom w n f) ≡ 
 unfolding shiftedFrom
 length-from w zero f = refl
 length-from w (suc n) f =
-    length-append (shiftedRow w (take 20 f)) (shiftedFrom w n (drop 20 f))
-    ∙ ap₂ _+_ (length-shifted w (take 20 f)) (length-from w n (drop 20 f))
-    ∙ sym (length-append (take 20 f) (drop 20 f))
-    ∙ ap length (take-append-drop 20 f)
+    length-append (shiftedRow w (take rowLength f)) (shiftedFrom w n (drop rowLength f))
+    ∙ ap₂ _+_ (length-shifted w (take rowLength f)) (length-from w n (drop rowLength f))
+    ∙ sym (length-append (take rowLength f) (drop rowLength f))
+    ∙ ap length (take-append-drop rowLength f)
 
 -- Row 0 of shifted rows is row 0 shifted, and after it come the later rows shifted.
-row-front : (w n : ℕ) (f : List ℕ) → take 20 (shiftedFrom w (suc n) f) ≡ shiftedRow w (take 20 f)
+row-front : (w n : ℕ) (f : List ℕ) → take rowLength (shiftedFrom w (suc n) f) ≡ shiftedRow w (take rowLength f)
 unfolding shiftedFrom
 row-front w n f =
-    take-front 20 f (shiftedRow w (take 20 f)) (shiftedFrom w n (drop 20 f)) (length-shifted w (take 20 f)) (length-from w n (drop 20 f))
+    take-front rowLength f (shiftedRow w (take rowLength f)) (shiftedFrom w n (drop rowLength f)) (length-shifted w (take rowLength f)) (length-from w n (drop rowLength f))
 
-row-later : (w n : ℕ) (f : List ℕ) → drop 20 (shiftedFrom w (suc n) f) ≡ shiftedFrom w n (drop 20 f)
+row-later : (w n : ℕ) (f : List ℕ) → drop rowLength (shiftedFrom w (suc n) f) ≡ shiftedFrom w n (drop rowLength f)
 unfolding shiftedFrom
 row-later w n f =
-    drop-front 20 f (shiftedRow w (take 20 f)) (shiftedFrom w n (drop 20 f)) (length-shifted w (take 20 f)) (length-from w n (drop 20 f))
+    drop-front rowLength f (shiftedRow w (take rowLength f)) (shiftedFrom w n (drop rowLength f)) (length-shifted w (take rowLength f)) (length-from w n (drop rowLength f))
 
 pub rows-shifted : (w n : ℕ) (f : List ℕ) → rowsFrom n (shiftedFrom w n f) ≡ map (shiftedRow w) (rowsFrom n f)
 unfolding rowsFrom
 rows-shifted w zero f = refl
 rows-shifted w (suc n) f =
-    ap₂ {C = List Row} _∷_ (row-front w n f) (ap (rowsFrom n) (row-later w n f) ∙ rows-shifted w n (drop 20 f))
+    ap₂ {C = List Row} _∷_ (row-front w n f) (ap (rowsFrom n) (row-later w n f) ∙ rows-shifted w n (drop rowLength f))
 
--- Twenty words more.
-turns : (n : ℕ) → 20 * suc n ≡ 20 + 20 * n
+-- One row more.
+turns : (n : ℕ) → rowLength * suc n ≡ rowLength + rowLength * n
 turns n = omega arith
 
 -- The words after n rows shifted stay.
-pub past-rows : (w n : ℕ) (f : List ℕ) → drop (20 * n) (shiftedFrom w n f) ≡ drop (20 * n) f
+pub past-rows : (w n : ℕ) (f : List ℕ) → drop (rowLength * n) (shiftedFrom w n f) ≡ drop (rowLength * n) f
 unfolding shiftedFrom
 past-rows w zero f = refl
 past-rows w (suc n) f =
     ap (λ k. drop k (shiftedFrom w (suc n) f)) (turns n)
-    ∙ sym (drop-drop (20 * n) 20 (shiftedFrom w (suc n) f))
-    ∙ ap (drop (20 * n)) (row-later w n f)
-    ∙ past-rows w n (drop 20 f)
-    ∙ drop-drop (20 * n) 20 f
+    ∙ sym (drop-drop (rowLength * n) rowLength (shiftedFrom w (suc n) f))
+    ∙ ap (drop (rowLength * n)) (row-later w n f)
+    ∙ past-rows w n (drop rowLength f)
+    ∙ drop-drop (rowLength * n) rowLength f
     ∙ ap (λ k. drop k f) (sym (turns n))
 
 -- n rows shifted and then m more.
-pub from-add : (w n m : ℕ) (f : List ℕ) → shiftedFrom w (n + m) f ≡ take (20 * n) (shiftedFrom w n f) ++ shiftedFrom w m (drop (20 * n) f)
+pub from-add : (w n m : ℕ) (f : List ℕ) → shiftedFrom w (n + m) f ≡ take (rowLength * n) (shiftedFrom w n f) ++ shiftedFrom w m (drop (rowLength * n) f)
 unfolding shiftedFrom
 from-add w zero m f = rw (zero-add m)
 from-add w (suc n) m f =
     ap (λ k. shiftedFrom w k f) (suc-add n m)
-    ∙ ap (λ g. shiftedRow w (take 20 f) ++ g) (from-add w n m (drop 20 f))
-    ∙ sym (append-assoc (shiftedRow w (take 20 f)) (take (20 * n) (shiftedFrom w n (drop 20 f))) (shiftedFrom w m (drop (20 * n) (drop 20 f))))
-    ∙ ap₂ _++_ (sym front) (ap (shiftedFrom w m) (drop-drop (20 * n) 20 f ∙ ap (λ k. drop k f) (sym (turns n))))
+    ∙ ap (λ g. shiftedRow w (take rowLength f) ++ g) (from-add w n m (drop rowLength f))
+    ∙ sym (append-assoc (shiftedRow w (take rowLength f)) (take (rowLength * n) (shiftedFrom w n (drop rowLength f))) (shiftedFrom w m (drop (rowLength * n) (drop rowLength f))))
+    ∙ ap₂ _++_ (sym front) (ap (shiftedFrom w m) (drop-drop (rowLength * n) rowLength f ∙ ap (λ k. drop k f) (sym (turns n))))
   where
-    front : take (20 * suc n) (shiftedFrom w (suc n) f) ≡ shiftedRow w (take 20 f) ++ take (20 * n) (shiftedFrom w n (drop 20 f))
+    front : take (rowLength * suc n) (shiftedFrom w (suc n) f) ≡ shiftedRow w (take rowLength f) ++ take (rowLength * n) (shiftedFrom w n (drop rowLength f))
     front =
         ap (λ k. take k (shiftedFrom w (suc n) f)) (turns n)
-        ∙ take-add 20 (20 * n) (shiftedFrom w (suc n) f)
-        ∙ ap₂ (λ a b. a ++ take (20 * n) b) (row-front w n f) (row-later w n f)
+        ∙ take-add rowLength (rowLength * n) (shiftedFrom w (suc n) f)
+        ∙ ap₂ (λ a b. a ++ take (rowLength * n) b) (row-front w n f) (row-later w n f)
 
 -- A loop that shifts row after row: row r is not shifted yet, and shifting it leaves r + 1 rows shifted.
-pub row-waits : (w r : ℕ) (f : List ℕ) → take 20 (drop (20 * r) (shiftedFrom w r f)) ≡ take 20 (drop (20 * r) f)
-row-waits w r f = ap (λ g. take 20 g) (past-rows w r f)
+pub row-waits : (w r : ℕ) (f : List ℕ) → take rowLength (drop (rowLength * r) (shiftedFrom w r f)) ≡ take rowLength (drop (rowLength * r) f)
+row-waits w r f = ap (λ g. take rowLength g) (past-rows w r f)
 
 pub shift-step : (w r : ℕ) (f : List ℕ)
     → shiftedFrom w (r + 1) f
-    ≡ take (20 * r) (shiftedFrom w r f) ++ shiftedRow w (take 20 (drop (20 * r) (shiftedFrom w r f))) ++ drop (20 * r + 20) (shiftedFrom w r f)
+    ≡ take (rowLength * r) (shiftedFrom w r f) ++ shiftedRow w (take rowLength (drop (rowLength * r) (shiftedFrom w r f))) ++ drop (rowLength * r + rowLength) (shiftedFrom w r f)
 unfolding shiftedFrom
 shift-step w r f =
     from-add w r 1 f
-    ∙ ap (λ g. take (20 * r) (shiftedFrom w r f) ++ (shiftedRow w (take 20 g) ++ drop 20 g)) (sym (past-rows w r f))
-    ∙ seam (20 * r) (shiftedFrom w r f) (shiftedRow w (take 20 (drop (20 * r) (shiftedFrom w r f))))
+    ∙ ap (λ g. take (rowLength * r) (shiftedFrom w r f) ++ (shiftedRow w (take rowLength g) ++ drop rowLength g)) (sym (past-rows w r f))
+    ∙ seam (rowLength * r) (shiftedFrom w r f) (shiftedRow w (take rowLength (drop (rowLength * r) (shiftedFrom w r f))))
   where
-    seam : (k : ℕ) (g row : List ℕ) → take k g ++ (row ++ drop 20 (drop k g)) ≡ take k g ++ row ++ drop (k + 20) g
-    seam k g row = ap (λ h. take k g ++ (row ++ h)) (drop-drop 20 k g) ∙ sym (append-assoc (take k g) row (drop (k + 20) g))
+    seam : (k : ℕ) (g row : List ℕ) → take k g ++ (row ++ drop rowLength (drop k g)) ≡ take k g ++ row ++ drop (k + rowLength) g
+    seam k g row = ap (λ h. take k g ++ (row ++ h)) (drop-drop rowLength k g) ∙ sym (append-assoc (take k g) row (drop (k + rowLength) g))
 
 -- ---- soundness and cost of rows
 keeps-shifted : (w r : ℕ) (row : Row) → keepsTable r (shiftedRow w row) ≡ keepsTable r row
@@ -301,7 +302,7 @@ count-to w r p = sym (getD-take 1 (shiftedTo w r p) 0 0 (omega arith)) ∙ ap (�
 row-to : (w r : ℕ) (p : List ℕ) → row (shiftedTo w r p) r ≡ row p r
 row-to w r p =
     row-at (shiftedTo w r p) r
-    ∙ ap (λ f. take 20 (drop (20 * r) f)) (rows-to w r p)
+    ∙ ap (λ f. take rowLength (drop (rowLength * r) f)) (rows-to w r p)
     ∙ row-waits w r (drop 1 p)
     ∙ sym (row-at p r)
 
@@ -310,41 +311,41 @@ waiting w r p {q} e = sym (row-part p r) ∙ sym (row-to w r p) ∙ ap (λ l. ro
 
 step-to : (w r : ℕ) (p : List ℕ)
     → shiftedTo w (r + 1) p
-    ≡ take (1 + 20 * r) (shiftedTo w r p) ++ shiftedRow w (row (shiftedTo w r p) r) ++ drop (21 + 20 * r) (shiftedTo w r p)
+    ≡ take (rowStart r) (shiftedTo w r p) ++ shiftedRow w (row (shiftedTo w r p) r) ++ drop (1 + rowLength + rowLength * r) (shiftedTo w r p)
 unfolding shiftedTo
 step-to w r p =
     ap (λ f. take 1 p ++ f) (shift-step w r (drop 1 p))
-    ∙ seams (take 1 p) (take (20 * r) (shiftedFrom w r (drop 1 p))) _ (drop (20 * r + 20) (shiftedFrom w r (drop 1 p)))
+    ∙ seams (take 1 p) (take (rowLength * r) (shiftedFrom w r (drop 1 p))) _ (drop (rowLength * r + rowLength) (shiftedFrom w r (drop 1 p)))
     ∙ sym (λ i. before i ++ shiftedRow w (there i) ++ behind i)
   where
     seams : (a b c d : List ℕ) → a ++ (b ++ c ++ d) ≡ a ++ b ++ c ++ d
     seams a b c d = sym (append-assoc a (b ++ c) d) ∙ ap (λ f. f ++ d) (sym (append-assoc a b c))
 
-    before : take (1 + 20 * r) (shiftedTo w r p) ≡ take 1 p ++ take (20 * r) (shiftedFrom w r (drop 1 p))
-    before = take-add 1 (20 * r) (shiftedTo w r p) ∙ ap₂ (λ a f. a ++ take (20 * r) f) (front-to w r p) (rows-to w r p)
+    before : take (rowStart r) (shiftedTo w r p) ≡ take 1 p ++ take (rowLength * r) (shiftedFrom w r (drop 1 p))
+    before = take-add 1 (rowLength * r) (shiftedTo w r p) ∙ ap₂ (λ a f. a ++ take (rowLength * r) f) (front-to w r p) (rows-to w r p)
 
-    there : row (shiftedTo w r p) r ≡ take 20 (drop (20 * r) (shiftedFrom w r (drop 1 p)))
-    there = row-at (shiftedTo w r p) r ∙ ap (λ f. take 20 (drop (20 * r) f)) (rows-to w r p)
+    there : row (shiftedTo w r p) r ≡ take rowLength (drop (rowLength * r) (shiftedFrom w r (drop 1 p)))
+    there = row-at (shiftedTo w r p) r ∙ ap (λ f. take rowLength (drop (rowLength * r) f)) (rows-to w r p)
 
-    end : 21 + 20 * r ≡ 1 + (20 * r + 20)
+    end : 1 + rowLength + rowLength * r ≡ 1 + (rowLength * r + rowLength)
     end = omega arith
 
-    behind : drop (21 + 20 * r) (shiftedTo w r p) ≡ drop (20 * r + 20) (shiftedFrom w r (drop 1 p))
+    behind : drop (1 + rowLength + rowLength * r) (shiftedTo w r p) ≡ drop (rowLength * r + rowLength) (shiftedFrom w r (drop 1 p))
     behind =
         ap (λ k. drop k (shiftedTo w r p)) end
-        ∙ sym (drop-drop (20 * r + 20) 1 (shiftedTo w r p))
-        ∙ ap (λ f. drop (20 * r + 20) f) (rows-to w r p)
+        ∙ sym (drop-drop (rowLength * r + rowLength) 1 (shiftedTo w r p))
+        ∙ ap (λ f. drop (rowLength * r + rowLength) f) (rows-to w r p)
 
 pub step-put : (w r : ℕ) (p : List ℕ) {q new : List ℕ} → q ≡ shiftedTo w r p → new ≡ shiftedRow w (rowPart q r)
-    → partPut (1 + 20 * r) (1 + 20 * r + 20) q new ≡ shiftedTo w (r + 1) p
+    → partPut (rowStart r) (rowStart r + rowLength) q new ≡ shiftedTo w (r + 1) p
 step-put w r p {q} {new} e n =
-    part-put (1 + 20 * r) (1 + 20 * r + 20) q new (omega arith)
-    ∙ ap (λ x. take (1 + 20 * r) q ++ x ++ drop (1 + 20 * r + 20) q) (n ∙ ap (shiftedRow w) (sym (row-part q r)))
-    ∙ ap (λ l. take (1 + 20 * r) l ++ shiftedRow w (row l r) ++ drop (1 + 20 * r + 20) l) e
-    ∙ ap (λ k. take (1 + 20 * r) (shiftedTo w r p) ++ shiftedRow w (row (shiftedTo w r p) r) ++ drop k (shiftedTo w r p)) end
+    part-put (rowStart r) (rowStart r + rowLength) q new (omega arith)
+    ∙ ap (λ x. take (rowStart r) q ++ x ++ drop (rowStart r + rowLength) q) (n ∙ ap (shiftedRow w) (sym (row-part q r)))
+    ∙ ap (λ l. take (rowStart r) l ++ shiftedRow w (row l r) ++ drop (rowStart r + rowLength) l) e
+    ∙ ap (λ k. take (rowStart r) (shiftedTo w r p) ++ shiftedRow w (row (shiftedTo w r p) r) ++ drop k (shiftedTo w r p)) end
     ∙ sym (step-to w r p)
   where
-    end : 1 + 20 * r + 20 ≡ 21 + 20 * r
+    end : rowStart r + rowLength ≡ 1 + rowLength + rowLength * r
     end = omega arith
 
 -- ---- a plan shifted once
@@ -360,34 +361,34 @@ plan-rows w p = ap (λ q. drop 1 q) (sym (all-shifted w p)) ∙ rows-to w (rowCo
 pub rows-plan : (w : ℕ) (p : List ℕ) → rows (shiftedPlan w p) ≡ map (shiftedRow w) (rows p)
 rows-plan w p = ap₂ (λ n f. rowsFrom n f) (count-shifted w p) (plan-rows w p) ∙ rows-shifted w (rowCount p) (drop 1 p)
 
-pub past-plan : (w : ℕ) (p : List ℕ) → drop (1 + 20 * rowCount p) (shiftedPlan w p) ≡ drop (1 + 20 * rowCount p) p
+pub past-plan : (w : ℕ) (p : List ℕ) → drop (rowStart (rowCount p)) (shiftedPlan w p) ≡ drop (rowStart (rowCount p)) p
 past-plan w p =
-    sym (drop-drop (20 * rowCount p) 1 (shiftedPlan w p))
-    ∙ ap (λ f. drop (20 * rowCount p) f) (plan-rows w p)
+    sym (drop-drop (rowLength * rowCount p) 1 (shiftedPlan w p))
+    ∙ ap (λ f. drop (rowLength * rowCount p) f) (plan-rows w p)
     ∙ past-rows w (rowCount p) (drop 1 p)
-    ∙ drop-drop (20 * rowCount p) 1 p
+    ∙ drop-drop (rowLength * rowCount p) 1 p
 
 pub sound-shifted : (w : ℕ) (p : List ℕ) → sound (shiftedPlan w p) ≡ sound p
 unfolding sound
 sound-shifted w p =
-    ap (λ n. between 1 128 n && (soundFrom [] (rows (shiftedPlan w p)) && allZero (slice (1 + 20 * n) 2561 (shiftedPlan w p)))) (count-shifted w p)
-    ∙ ap₂ (λ b f. between 1 128 (rowCount p) && (b && allZero f)) sound-same rest-same
+    ap (λ n. between 1 mostRows n && (soundFrom [] (rows (shiftedPlan w p)) && allZero (slice (rowStart n) planLength (shiftedPlan w p)))) (count-shifted w p)
+    ∙ ap₂ (λ b f. between 1 mostRows (rowCount p) && (b && allZero f)) sound-same rest-same
   where
     sound-same : soundFrom [] (rows (shiftedPlan w p)) ≡ soundFrom [] (rows p)
     sound-same = ap (λ l. soundFrom [] l) (rows-plan w p) ∙ sound-rows w [] (rows p)
 
-    rest-same : slice (1 + 20 * rowCount p) 2561 (shiftedPlan w p) ≡ slice (1 + 20 * rowCount p) 2561 p
+    rest-same : slice (rowStart (rowCount p)) planLength (shiftedPlan w p) ≡ slice (rowStart (rowCount p)) planLength p
     rest-same =
-        slice-part (1 + 20 * rowCount p) 2561 (shiftedPlan w p)
-        ∙ ap (λ f. take (2561 - (1 + 20 * rowCount p)) f) (past-plan w p)
-        ∙ sym (slice-part (1 + 20 * rowCount p) 2561 p)
+        slice-part (rowStart (rowCount p)) planLength (shiftedPlan w p)
+        ∙ ap (λ f. take (planLength - (rowStart (rowCount p))) f) (past-plan w p)
+        ∙ sym (slice-part (rowStart (rowCount p)) planLength p)
 
 pub cost-shifted : (w : ℕ) (p : List ℕ) → cost (shiftedPlan w p) ≡ cost p
 cost-shifted w p = ap costOf (rows-plan w p) ∙ cost-rows w (rows p)
 
 -- "1" and "9" go by length and soundness alone.
 pub refusal-like : (p q : List ℕ) → length p ≡ length q → sound p ≡ sound q → refusal p ≡ refusal q
-refusal-like p q e s = ap₂ (λ n b. cond (ltb n 2561) 1 (cond b 0 9)) e s
+refusal-like p q e s = ap₂ (λ n b. cond (ltb n planLength) 1 (cond b 0 9)) e s
 
 -- ---- a plan shifted n times
 pub length-after : (w n : ℕ) (p : List ℕ) → length (planAfter w n p) ≡ length p

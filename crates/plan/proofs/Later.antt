@@ -10,6 +10,7 @@ use lib.Dec.{eqb, ltb}
 use lib.ListN.{length, getD, take, drop, set, length-append, take-append-drop, List·getD-append}
 use lib.Seq.{take-length, take-take, take-append-seam, take-suc-set, length-take-le, getD-take, getD-at}
 use borrow.Author.Tests.{eqb-true, ltb-true}
+use Rattle.plan.specs.Measures.{rowLength}
 use Rattle.word.specs.Word as Word
 use Rattle.plan.specs.Row.{Row, kind, wordA, wordB, kindFacts, elements, elementsUsed, allZero, soundA, soundB, keepsTable}
 use Rattle.plan.specs.Plan.{rowCount, row, rowsFrom, firstRows, rows, sound}
@@ -81,12 +82,12 @@ values-before w f g =
 pub first-values : (w r : ℕ) (p : List ℕ) → r ≤ rowCount p → take r (values w p) ≡ valuesFrom w [] (firstRows r p)
 first-values w r p h =
     ap₂ (λ n l. take n (valuesFrom w [] l)) (sym (length-rows r (drop 1 p))) cut
-    ∙ values-before w (firstRows r p) (rowsFrom (rowCount p - r) (drop (20 * r) (drop 1 p)))
+    ∙ values-before w (firstRows r p) (rowsFrom (rowCount p - r) (drop (rowLength * r) (drop 1 p)))
   where
     count : rowCount p ≡ r + (rowCount p - r)
     count = omega arith
 
-    cut : rows p ≡ firstRows r p ++ rowsFrom (rowCount p - r) (drop (20 * r) (drop 1 p))
+    cut : rows p ≡ firstRows r p ++ rowsFrom (rowCount p - r) (drop (rowLength * r) (drop 1 p))
     cut = ap (λ n. rowsFrom n (drop 1 p)) count ∙ rows-add r (rowCount p - r) (drop 1 p)
 
 pub next-value : (w r : ℕ) (p : List ℕ)

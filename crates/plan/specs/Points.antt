@@ -4,6 +4,7 @@ use mathlib.Core.List.{List, [], _∷_, _++_}
 use Prim.Native.Nat.{ℕ, zero, suc, _+_, _-_}
 use lib.Dec.{eqb}
 use lib.ListN.{getD, take, drop}
+use Rattle.plan.specs.Measures.{rowLength}
 use Rattle.word.specs.Word as Word
 use Rattle.chain.specs.Chain.{words}
 use Rattle.chain.specs.SumChain.{sumShift}
@@ -55,7 +56,7 @@ shiftedRow w row =
 -- The first n rows shifted; the words after them stay.
 unfoldable pub shiftedFrom : ℕ → ℕ → List ℕ → List ℕ
 shiftedFrom w zero f = f
-shiftedFrom w (suc n) f = shiftedRow w (take 20 f) ++ shiftedFrom w n (drop 20 f)
+shiftedFrom w (suc n) f = shiftedRow w (take rowLength f) ++ shiftedFrom w n (drop rowLength f)
 
 -- "then shifts every chain once".
 unfoldable pub shiftedPlan : ℕ → List ℕ → List ℕ

@@ -5,12 +5,13 @@ ghost use mathlib.Core.Path.{_≡_};
 ghost use mathlib.Core.Bool.{true};
 ghost use Prim.Native.Nat.{_≤_, _<_};
 ghost use lib.ListN.{length};
+ghost use Rattle.plan.specs.Measures.{planLength, rowLength};
 ghost use Rattle.plan.specs.Row.{kind, wordB, rowCost};
 ghost use Rattle.plan.specs.Plan.{sound, cost};
 
 // The cost of a row of a sound plan.
 fn row_cost(row: &[u64]) -> u64
-    requires { ⌜ length (now row) ≡ 20 ⌝ }
+    requires { ⌜ length (now row) ≡ rowLength ⌝ }
     requires { ⌜ kind (now row) < 9 ⌝ }
     requires { ⌜ (kind (now row) ≡ 7 → 1 ≤ wordB (now row)) ⌝ }
     ensures { λ s. ⌜ s ≡ rowCost (now (row .entry)) ⌝ }
@@ -27,7 +28,7 @@ fn row_cost(row: &[u64]) -> u64
 }
 
 pub fn plan_cost(plan: &[u64]) -> u64
-    requires { ⌜ 2561 ≤ length (now plan) ⌝ }
+    requires { ⌜ planLength ≤ length (now plan) ⌝ }
     requires { ⌜ sound (now plan) ≡ true ⌝ }
     ensures { λ s. ⌜ s ≡ cost (now (plan .entry)) ⌝ }
     ensures { λ s. ⌜ s ≤ 16384 ⌝ }

@@ -10,6 +10,7 @@ ghost use mathlib.Core.Path.{_≡_};
 ghost use mathlib.Core.Bool.{true};
 ghost use Prim.Native.Nat.{_≤_, min};
 ghost use lib.ListN.{length};
+ghost use Rattle.plan.specs.Measures.{planLength, mostRows};
 ghost use Rattle.plan.specs.Plan.{sound};
 ghost use Rattle.plan.specs.Filling.{planAfter, pointValues, fill, costAnswer};
 
@@ -33,9 +34,9 @@ pub fn cost(plan: &[u64]) -> CostAnswer
 
 // One point for each word of the table: the root's value, and then a shift of every chain. The lent values are scratch.
 fn fill_points(plan: &mut [u64], table: &mut [u64], values: &mut [u64])
-    requires { ⌜ 2561 ≤ length (now plan) ⌝ }
+    requires { ⌜ planLength ≤ length (now plan) ⌝ }
     requires { ⌜ sound (now plan) ≡ true ⌝ }
-    requires { ⌜ length (now values) ≡ 128 ⌝ }
+    requires { ⌜ length (now values) ≡ mostRows ⌝ }
     ensures { λ _. ⌜ now (table .exit) ≡ pointValues 64 (length (now (table .entry))) (now (plan .entry)) ⌝ }
     ensures { λ _. ⌜ now (plan .exit) ≡ planAfter 64 (length (now (table .entry))) (now (plan .entry)) ⌝ }
 {
@@ -48,7 +49,7 @@ fn fill_points(plan: &mut [u64], table: &mut [u64], values: &mut [u64])
 }
 
 fn fill_table(plan: &mut [u64], table: &mut [u64])
-    requires { ⌜ 2561 ≤ length (now plan) ⌝ }
+    requires { ⌜ planLength ≤ length (now plan) ⌝ }
     requires { ⌜ sound (now plan) ≡ true ⌝ }
     ensures { λ _. ⌜ now (table .exit) ≡ pointValues 64 (length (now (table .entry))) (now (plan .entry)) ⌝ }
     ensures { λ _. ⌜ now (plan .exit) ≡ planAfter 64 (length (now (table .entry))) (now (plan .entry)) ⌝ }

@@ -6,13 +6,14 @@ ghost use mathlib.Core.Path.{_≡_};
 ghost use mathlib.Core.Bool.{true};
 ghost use Prim.Native.Nat.{_≤_, _<_};
 ghost use lib.ListN.{length};
+ghost use Rattle.plan.specs.Measures.{planLength, rowLength, mostRows};
 ghost use Rattle.plan.specs.Row.{kind, wordA, wordB, isChain};
 ghost use Rattle.plan.specs.Plan.{sound};
 ghost use Rattle.plan.specs.Points.{rowValue, rootValue, shiftedRow, shiftedPlan};
 
 // The value of a row, given those of the rows before it.
 fn row_value(row: &[u64], values: &[u64]) -> u64
-    requires { ⌜ length (now row) ≡ 20 ⌝ }
+    requires { ⌜ length (now row) ≡ rowLength ⌝ }
     requires { ⌜ wordA (now row) < length (now values) ⌝ }
     requires { ⌜ wordB (now row) < length (now values) ⌝ }
     ensures { λ s. ⌜ s ≡ rowValue 64 (now (values .entry)) (now (row .entry)) ⌝ }
@@ -33,9 +34,9 @@ fn row_value(row: &[u64], values: &[u64]) -> u64
 
 // The value of the root. The lent words take the values of the rows.
 pub fn root_value(plan: &[u64], values: &mut [u64]) -> u64
-    requires { ⌜ 2561 ≤ length (now plan) ⌝ }
+    requires { ⌜ planLength ≤ length (now plan) ⌝ }
     requires { ⌜ sound (now plan) ≡ true ⌝ }
-    requires { ⌜ length (now values) ≡ 128 ⌝ }
+    requires { ⌜ length (now values) ≡ mostRows ⌝ }
     ensures { λ s. ⌜ s ≡ rootValue 64 (now (plan .entry)) ⌝ }
 {
     let count = plan[0] as usize;
@@ -50,7 +51,7 @@ pub fn root_value(plan: &[u64], values: &mut [u64]) -> u64
 
 // One shift of a row of a sound plan.
 fn shift_row(row: &mut [u64])
-    requires { ⌜ length (now row) ≡ 20 ⌝ }
+    requires { ⌜ length (now row) ≡ rowLength ⌝ }
     requires { ⌜ (isChain (kind (now row)) ≡ true → wordA (now row) ≤ 16) ⌝ }
     ensures { λ _. ⌜ now (row .exit) ≡ shiftedRow 64 (now (row .entry)) ⌝ }
 {
@@ -67,7 +68,7 @@ fn shift_row(row: &mut [u64])
 }
 
 pub fn shift_plan(plan: &mut [u64])
-    requires { ⌜ 2561 ≤ length (now plan) ⌝ }
+    requires { ⌜ planLength ≤ length (now plan) ⌝ }
     requires { ⌜ sound (now plan) ≡ true ⌝ }
     ensures { λ _. ⌜ now (plan .exit) ≡ shiftedPlan 64 (now (plan .entry)) ⌝ }
 {

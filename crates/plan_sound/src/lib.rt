@@ -11,6 +11,7 @@ ghost use mathlib.Core.Path.{_≡_};
 ghost use mathlib.Core.List.{[]};
 ghost use Prim.Native.Nat.{_≤_, _<_};
 ghost use lib.ListN.{length};
+ghost use Rattle.plan.specs.Measures.{planLength, mostRows};
 ghost use Rattle.plan.specs.Row.{soundRow};
 ghost use Rattle.plan.specs.Plan.{row, firstRows, soundFrom, sound, refusal};
 ghost use Rattle.plan.specs.Filling.{soundAnswer};
@@ -19,8 +20,8 @@ const PLAN_WORDS: usize = 2561;
 
 // Row r, given the rows before it: it keeps the table, and the base of a raise is an odd constant.
 fn row_is_sound(plan: &[u64], r: usize) -> bool
-    requires { ⌜ 2561 ≤ length (now plan) ⌝ }
-    requires { ⌜ r < 128 ⌝ }
+    requires { ⌜ planLength ≤ length (now plan) ⌝ }
+    requires { ⌜ r < mostRows ⌝ }
     ensures { λ s. ⌜ s ≡ soundRow (firstRows r (now (plan .entry))) (row (now (plan .entry)) r) ⌝ }
 {
     let at = 1 + 20 * r;
@@ -35,8 +36,8 @@ fn row_is_sound(plan: &[u64], r: usize) -> bool
 }
 
 fn rows_are_sound(plan: &[u64], count: usize) -> bool
-    requires { ⌜ 2561 ≤ length (now plan) ⌝ }
-    requires { ⌜ count ≤ 128 ⌝ }
+    requires { ⌜ planLength ≤ length (now plan) ⌝ }
+    requires { ⌜ count ≤ mostRows ⌝ }
     ensures { λ s. ⌜ s ≡ soundFrom [] (firstRows count (now (plan .entry))) ⌝ }
 {
     let mut r = 0;
@@ -50,7 +51,7 @@ fn rows_are_sound(plan: &[u64], count: usize) -> bool
 }
 
 fn is_sound(plan: &[u64]) -> bool
-    requires { ⌜ 2561 ≤ length (now plan) ⌝ }
+    requires { ⌜ planLength ≤ length (now plan) ⌝ }
     ensures { λ s. ⌜ s ≡ sound (now (plan .entry)) ⌝ }
 {
     let count = plan[0] as usize;

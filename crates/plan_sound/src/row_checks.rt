@@ -4,6 +4,7 @@ use crate::kinds;
 ghost use mathlib.Core.Path.{_≡_};
 ghost use Prim.Native.Nat.{_≤_, _<_};
 ghost use lib.ListN.{length};
+ghost use Rattle.plan.specs.Measures.{rowLength, mostRows};
 ghost use Rattle.plan.specs.Row.{soundA, soundB, elementsUsed, allZero, keepsTable, oddConstant};
 
 pub fn all_zero(words: &[u64]) -> bool
@@ -56,7 +57,7 @@ fn b_is_sound(kind: u64, b: u64, r: u64) -> bool
 }
 
 fn elements_used(kind: u64, a: u64) -> usize
-    requires { ⌜ a ≤ 128 ⌝ }
+    requires { ⌜ a ≤ mostRows ⌝ }
     ensures { λ s. ⌜ s ≡ elementsUsed kind a ⌝ }
 {
     if kind == 0 {
@@ -70,8 +71,8 @@ fn elements_used(kind: u64, a: u64) -> usize
 
 // Everything that the table asks of row r, but for the base of a raise.
 pub fn keeps_table(row: &[u64], r: u64) -> bool
-    requires { ⌜ length (now row) ≡ 20 ⌝ }
-    requires { ⌜ r ≤ 128 ⌝ }
+    requires { ⌜ length (now row) ≡ rowLength ⌝ }
+    requires { ⌜ r ≤ mostRows ⌝ }
     ensures { λ s. ⌜ s ≡ keepsTable r (now (row .entry)) ⌝ }
 {
     let kind = row[0];
@@ -90,7 +91,7 @@ pub fn keeps_table(row: &[u64], r: u64) -> bool
 }
 
 pub fn odd_constant(row: &[u64]) -> bool
-    requires { ⌜ length (now row) ≡ 20 ⌝ }
+    requires { ⌜ length (now row) ≡ rowLength ⌝ }
     ensures { λ s. ⌜ s ≡ oddConstant (now (row .entry)) ⌝ }
 {
     if row[0] != 0 {

@@ -6,6 +6,7 @@ use table::JobLine;
 ghost use mathlib.Core.Path.{_≡_};
 ghost use Prim.Native.Nat.{_+_, _*_, _≤_};
 ghost use lib.ListN.{length};
+ghost use Rattle.plan.specs.Measures.{planLength};
 ghost use Rattle.plan.specs.Plan.{refusal};
 ghost use Rattle.plan.specs.Filling.{planAfter, pointValues};
 ghost use Rattle.table_fields.specs.Writing.{Wrote};
@@ -35,7 +36,7 @@ pub fn print_job(
     table: &mut [u64],
     out: &mut [u8],
 ) -> usize
-    requires { ⌜ length (now plan) ≡ 2561 ⌝ }
+    requires { ⌜ length (now plan) ≡ planLength ⌝ }
     requires { ⌜ job .count ≤ length (now table) ⌝ }
     requires { ⌜ length (now table) ≤ 4096 ⌝ }
     requires { ⌜ 67 + 42 * length (now table) ≤ length (now out) ⌝ }

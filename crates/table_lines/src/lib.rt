@@ -10,6 +10,7 @@ ghost use mathlib.Core.Path.{_≡_};
 ghost use mathlib.Core.List.{List};
 ghost use Prim.Native.Nat.{ℕ, _+_, _-_, _*_, _^_, _≤_, _<_};
 ghost use lib.ListN.{length};
+ghost use Rattle.plan.specs.Measures.{planLength};
 ghost use Rattle.table_fields.specs.Writing.{Wrote};
 ghost use Rattle.table_progress.specs.Printed.{jobPrints};
 ghost use Rattle.table_progress.specs.Run.{theHeader, theDefaults, aJob, linePrints, endPrints};
@@ -105,7 +106,7 @@ fn end_job<'a>(
     table: &mut [u64],
     out: &mut [u8],
 ) -> usize
-    requires { ⌜ 2561 ≤ length (now plan) ⌝ }
+    requires { ⌜ planLength ≤ length (now plan) ⌝ }
     requires { ⌜ 4096 ≤ length (now table) ⌝ }
     requires { ⌜ 67 + 42 * 4096 ≤ length (now out) ⌝ }
     ensures { λ r. ⌜ Wrote (now (out .entry)) 0 (jobPrints n (now (line .entry)) (now (defaults .entry))) r (now (out .exit)) ⌝ }
@@ -136,7 +137,7 @@ pub fn end_line(
     requires { ⌜ 4096 ≤ length (now defaults) ⌝ }
     requires { ⌜ progress .kept ≤ 4096 ⌝ }
     requires { ⌜ progress .number < 2 ^ 64 - 1 ⌝ }
-    requires { ⌜ 2561 ≤ length (now plan) ⌝ }
+    requires { ⌜ planLength ≤ length (now plan) ⌝ }
     requires { ⌜ 4096 ≤ length (now table) ⌝ }
     requires { ⌜ 67 + 42 * 4096 ≤ length (now out) ⌝ }
     ensures { λ r. ⌜ r .progress ≡ progressAfter progress (now (line .entry)) ⌝ }

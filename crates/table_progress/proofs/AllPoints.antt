@@ -9,6 +9,7 @@ use native.Mathlib.Omega.{arith}
 use lib.Dec.{eqb}
 use lib.ListN.{length}
 use lib.Seq.{drop-length}
+use Rattle.plan.specs.Measures.{planLength}
 use Rattle.plan.specs.declared.CostAnswer.{CostAnswer}
 use Rattle.plan.specs.Plan.{rowCount, rowsFrom, firstRows, sound, costOf, cost, refusal}
 use Rattle.plan.specs.Filling.{pointCost, pointsFor, planAfter, pointValues, filled, fill, costAnswer}
@@ -25,7 +26,7 @@ no-cost : (p : List ℕ) → costOf (firstRows 0 p) ≡ 0
 unfolding rowsFrom costOf
 no-cost p = refl
 
-cost-up-to : (p : List ℕ) (r : ℕ) → 2561 ≤ length p → sound p ≡ true → r ≤ rowCount p → costOf (firstRows r p) ≤ 128 * r
+cost-up-to : (p : List ℕ) (r : ℕ) → planLength ≤ length p → sound p ≡ true → r ≤ rowCount p → costOf (firstRows r p) ≤ 128 * r
 cost-up-to p zero long e h = omega (arith, no-cost p)
 cost-up-to p (suc r) long e h =
     omega (arith, cost-up-to p r long e (omega arith), part-cost p r long e h, cost-next r p, ap (λ n. costOf (firstRows n p)) (add-one r))

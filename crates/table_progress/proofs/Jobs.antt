@@ -7,6 +7,7 @@ use native.Mathlib.Nat.{sub-zero}
 use native.Mathlib.Omega.{arith}
 use lib.ListN.{length, drop, drop-of-length-le}
 use lib.Seq.{length-take-le}
+use Rattle.plan.specs.Measures.{planLength}
 use Rattle.formula.specs.Tree.{Tree}
 use Rattle.formula.specs.Refusals.{Refused, Accepted}
 use Rattle.formula_scan.specs.Verdict.{Verdict, verdict}
@@ -78,7 +79,7 @@ module _ (n : ℕ) (job : JobLine) (formula plan table out : List ℕ) where
   }
 
   -- A formula that compiling refuses.
-  pub formula-refused : {answer : CompileAnswer} {r : ℕ} {plan′ out′ : List ℕ} → job .ok ≡ true → length plan ≡ 2561
+  pub formula-refused : {answer : CompileAnswer} {r : ℕ} {plan′ out′ : List ℕ} → job .ok ≡ true → length plan ≡ planLength
       → Compiling 64 formula (job .start) (job .step) plan answer plan′ → (answer .number ≡ 0 → ⊥)
       → Wrote out 0 (noLine n (answer .number) (answer .place)) r out′
       → JobPrinted n job formula plan table out r plan′ table out′
@@ -89,7 +90,7 @@ module _ (n : ℕ) (job : JobLine) (formula plan table out : List ℕ) where
   formula-refused e long (accepted h found) some line = absurd (some refl)
 
   -- A formula that compiling accepts: the plan's 2,561 words are all that was lent.
-  formula-accepted : {answer : CompileAnswer} {plan′ : List ℕ} → length plan ≡ 2561
+  formula-accepted : {answer : CompileAnswer} {plan′ : List ℕ} → length plan ≡ planLength
       → Compiling 64 formula (job .start) (job .step) plan answer plan′ → answer .number ≡ 0
       → (t : Tree) × Accepted 64 formula t × (plan′ ≡ compiled 64 (job .start) (job .step) t)
   formula-accepted long (too-short h) none = absurd (omega arith)
@@ -97,11 +98,11 @@ module _ (n : ℕ) (job : JobLine) (formula plan table out : List ℕ) where
   formula-accepted long (accepted {t} h found) none = (
     t,
     found,
-    ap (λ l. compiled 64 (job .start) (job .step) t ++ l) (drop-of-length-le plan {i = 2561} (omega arith))
+    ap (λ l. compiled 64 (job .start) (job .step) t ++ l) (drop-of-length-le plan {i = planLength} (omega arith))
         ∙ append-nil (compiled 64 (job .start) (job .step) t),
   )
 
-  module _ {answer : CompileAnswer} {plan′ : List ℕ} (long : length plan ≡ 2561)
+  module _ {answer : CompileAnswer} {plan′ : List ℕ} (long : length plan ≡ planLength)
       (compiles : Compiling 64 formula (job .start) (job .step) plan answer plan′) (none : answer .number ≡ 0) where
     pub formula-sound : refusal plan′ ≡ 0
     formula-sound =

@@ -5,6 +5,7 @@ use mathlib.Core.List.{List, _++_}
 use Prim.Native.Nat.{ℕ, _+_, _≤_}
 use native.Mathlib.Nat.{sub-zero}
 use lib.ListN.{length, take, drop, take-append-drop}
+use Rattle.plan.specs.Measures.{planLength}
 use Rattle.formula_scan.specs.Verdict.{Verdict, refused, accepted, verdict}
 use Rattle.plan.specs.Filling.{pointValues}
 use Rattle.plan.proofs.RowLaws.{part, partPut}
@@ -71,10 +72,10 @@ few-points l kept judged = subst (λ (job : JobLine). job .count ≤ 4096) (sym 
 
 module _ (n : ℕ) (l kept plan table out : List ℕ) (room : 4096 ≤ length table) {r : JobLine} {f : List ℕ}
     (judged : r ≡ judgedJob l kept) (formula : f ≡ picked 1 l kept) where
-  plan-put : (t : Bool) (v : Verdict) → cond t (verdictPlan r v (part 0 2561 plan)) (part 0 2561 plan) ++ drop 2561 plan
-      ≡ cond t (verdictPlan r v (take 2561 plan) ++ drop 2561 plan) plan
+  plan-put : (t : Bool) (v : Verdict) → cond t (verdictPlan r v (part 0 planLength plan)) (part 0 planLength plan) ++ drop planLength plan
+      ≡ cond t (verdictPlan r v (take planLength plan) ++ drop planLength plan) plan
   plan-put true v = refl
-  plan-put false v = take-append-drop 2561 plan
+  plan-put false v = take-append-drop planLength plan
 
   table-whole : (v : Verdict) → verdictTable r v (part 0 4096 table) ++ drop 4096 table ≡ verdictTable r v table
   unfolding verdictTable
@@ -87,14 +88,14 @@ module _ (n : ℕ) (l kept plan table out : List ℕ) (room : 4096 ≤ length ta
   table-put true v = table-whole v
   table-put false v = take-append-drop 4096 table
 
-  pub job-ended : {w : ℕ} {plan′ table′ out′ : List ℕ} → JobPrinted n r f (part 0 2561 plan) (part 0 4096 table) out w plan′ table′ out′
-      → JobEnded n l kept plan table out w (partPut 0 2561 plan plan′) (partPut 0 4096 table table′) out′
+  pub job-ended : {w : ℕ} {plan′ table′ out′ : List ℕ} → JobPrinted n r f (part 0 planLength plan) (part 0 4096 table) out w plan′ table′ out′
+      → JobEnded n l kept plan table out w (partPut 0 planLength plan plan′) (partPut 0 4096 table table′) out′
   job-ended printed = (
     wrote-same (ap₂ (judgedPrints n) judged formula) (printed .prints),
     (
-      ap (λ q. q ++ drop 2561 plan) (printed .leaves)
+      ap (λ q. q ++ drop planLength plan) (printed .leaves)
           ∙ plan-put (r .ok) (verdict f)
-          ∙ ap₂ (λ (job : JobLine) s. cond (job .ok) (verdictPlan job (verdict s) (take 2561 plan) ++ drop 2561 plan) plan) judged formula,
+          ∙ ap₂ (λ (job : JobLine) s. cond (job .ok) (verdictPlan job (verdict s) (take planLength plan) ++ drop planLength plan) plan) judged formula,
       ap (λ q. q ++ drop 4096 table) (printed .fills)
           ∙ table-put (r .ok) (verdict f)
           ∙ ap₂ (λ (job : JobLine) s. cond (job .ok) (verdictTable job (verdict s) table) table) judged formula,

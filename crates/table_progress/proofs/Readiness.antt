@@ -7,6 +7,7 @@ use native.Mathlib.Omega.{arith}
 use lib.Dec.{eqb, leb, ltb}
 use lib.ListN.{length, take}
 use borrow.Author.Tests.{ltb-true, ltb-false, leb-true, eqb-true, eqb-false, lt-ltb, le-leb}
+use Rattle.plan.specs.Measures.{planLength}
 use Rattle.formula.specs.Refusals.{count}
 use Rattle.fold.proofs.Rules.{picked as picks}
 use Rattle.table.specs.Parts.{lineFeed, before}
@@ -18,7 +19,7 @@ use Rattle.table_progress.specs.Steps.{Outcome, refusedStep, lineStep, p
 pub record Ready (p : Progress) (b : Buffers) : Type 0 where
   pub line : 4097 ≤ length (b .line)
   pub defaults : 4096 ≤ length (b .defaults)
-  pub plan : 2561 ≤ length (b .plan)
+  pub plan : planLength ≤ length (b .plan)
   pub table : 4096 ≤ length (b .table)
   pub out : mostPrinted ≤ length (b .out)
   pub held : p .held ≤ 4097
@@ -36,14 +37,14 @@ is-ready p b e =
     let all = and-eq-true-iff (hasRoom b) (isReachable p) .0 e in
     let from-line = and-eq-true-iff (leb 4097 (length (b .line))) _ .0 (all .0) in
     let from-defaults = and-eq-true-iff (leb 4096 (length (b .defaults))) _ .0 (from-line .1) in
-    let from-plan = and-eq-true-iff (leb 2561 (length (b .plan))) _ .0 (from-defaults .1) in
+    let from-plan = and-eq-true-iff (leb planLength (length (b .plan))) _ .0 (from-defaults .1) in
     let from-table = and-eq-true-iff (leb 4096 (length (b .table))) _ .0 (from-plan .1) in
     let from-held = and-eq-true-iff (leb (p .held) 4097) _ .0 (all .1) in
     let from-kept = and-eq-true-iff (leb (p .kept) 4096) _ .0 (from-held .1) in
     record {
       line = leb-true 4097 (length (b .line)) (from-line .0);
       defaults = leb-true 4096 (length (b .defaults)) (from-defaults .0);
-      plan = leb-true 2561 (length (b .plan)) (from-plan .0);
+      plan = leb-true planLength (length (b .plan)) (from-plan .0);
       table = leb-true 4096 (length (b .table)) (from-table .0);
       out = leb-true mostPrinted (length (b .out)) (from-table .1);
       held = leb-true (p .held) 4097 (from-held .0);
@@ -56,7 +57,7 @@ makes-ready p b r =
     both (hasRoom b) (isReachable p)
     (both _ _ (le-leb 4097 (length (b .line)) (r .line))
     (both _ _ (le-leb 4096 (length (b .defaults)) (r .defaults))
-    (both _ _ (le-leb 2561 (length (b .plan)) (r .plan))
+    (both _ _ (le-leb planLength (length (b .plan)) (r .plan))
     (both _ _ (le-leb 4096 (length (b .table)) (r .table)) (le-leb mostPrinted (length (b .out)) (r .out))))))
     (both _ _ (le-leb (p .held) 4097 (r .held))
     (both _ _ (le-leb (p .kept) 4096 (r .kept)) (lt-ltb (p .number) (2 ^ 64 - 1) (r .number))))

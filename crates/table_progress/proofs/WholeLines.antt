@@ -7,6 +7,7 @@ use native.Mathlib.Numerals.{add-one}
 use native.Mathlib.Omega.{arith}
 use lib.ListN.{length, take, drop}
 use lib.Seq.{length-take-le, length-front, take-append-seam}
+use Rattle.plan.specs.Measures.{planLength}
 use Rattle.formula_scan.specs.Verdict.{Verdict, refused, accepted, verdict}
 use Rattle.formula_scan.proofs.Verdicts.{verdict-accepted}
 use Rattle.plan.specs.Filling.{pointValues}
@@ -79,24 +80,24 @@ length-defaults (aJob kept n) l buffer h = refl
 length-defaults nothing l buffer h = refl
 
 -- A formula that is taken has a plan of 2,561 words.
-length-verdict-plan : (job : JobLine) (s plan : List ℕ) (v : Verdict) → verdict s ≡ v → length plan ≡ 2561 → length (verdictPlan job v plan) ≡ 2561
+length-verdict-plan : (job : JobLine) (s plan : List ℕ) (v : Verdict) → verdict s ≡ v → length plan ≡ planLength → length (verdictPlan job v plan) ≡ planLength
 unfolding verdictPlan
 length-verdict-plan job s plan (refused number place) e h = h
 length-verdict-plan job s plan (accepted t) e h =
     length-after 64 (job .count) (planWords (fold 64 (job .start) (job .step) t))
     ∙ compiled-length 64 (job .start) (job .step) (omega arith) (verdict-accepted s e)
 
-pub length-plan-after : (awaits : Awaits) (l plan : List ℕ) → 2561 ≤ length plan → length (planAfterLine awaits l plan) ≡ length plan
+pub length-plan-after : (awaits : Awaits) (l plan : List ℕ) → planLength ≤ length plan → length (planAfterLine awaits l plan) ≡ length plan
 length-plan-after theHeader l plan h = refl
 length-plan-after theDefaults l plan h = refl
 length-plan-after (aJob kept n) l plan h =
     picks (λ q. length q ≡ length plan) (judgedJob l kept .ok)
-    (λ _. length-front plan (verdictPlan (judgedJob l kept) (verdict (picked 1 l kept)) (take 2561 plan)) 2561
-    (length-verdict-plan (judgedJob l kept) (picked 1 l kept) (take 2561 plan) (verdict (picked 1 l kept)) refl short ∙ sym short))
+    (λ _. length-front plan (verdictPlan (judgedJob l kept) (verdict (picked 1 l kept)) (take planLength plan)) planLength
+    (length-verdict-plan (judgedJob l kept) (picked 1 l kept) (take planLength plan) (verdict (picked 1 l kept)) refl short ∙ sym short))
     (λ _. refl)
   where
-    short : length (take 2561 plan) ≡ 2561
-    short = length-take-le 2561 plan h
+    short : length (take planLength plan) ≡ planLength
+    short = length-take-le planLength plan h
 length-plan-after nothing l plan h = refl
 
 length-verdict-table : (job : JobLine) (table : List ℕ) (v : Verdict) → job .count ≤ length table → length (verdictTable job v table) ≡ length table

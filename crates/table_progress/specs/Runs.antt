@@ -4,6 +4,7 @@ use mathlib.Core.Bool.{true}
 use mathlib.Core.List.{List, [], _++_}
 use Prim.Native.Nat.{ℕ, _≤_}
 use lib.ListN.{length, take, drop}
+use Rattle.plan.specs.Measures.{planLength}
 use Rattle.table_progress.specs.declared.Progress.{Progress}
 use Rattle.table_progress.specs.Steps.{Buffers, Outcome, mostPrinted, stepped, finished}
 
@@ -13,7 +14,7 @@ lent line defaults plan table out = record { line = line; defaults = defaults; p
 
 -- Plan, table and out that are long enough.
 pub record Roomy (plan table out : List ℕ) : Type 0 where
-  pub plan-room : 2561 ≤ length plan
+  pub plan-room : planLength ≤ length plan
   pub table-room : 4096 ≤ length table
   pub out-room : mostPrinted ≤ length out
 

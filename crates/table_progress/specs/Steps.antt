@@ -5,6 +5,7 @@ use mathlib.Core.List.{List, _++_}
 use Prim.Native.Nat.{ℕ, _+_, _-_, _*_, _^_}
 use lib.Dec.{eqb, leb, ltb}
 use lib.ListN.{length, take, drop}
+use Rattle.plan.specs.Measures.{planLength}
 use Rattle.formula.specs.Refusals.{count}
 use Rattle.formula_scan.specs.Verdict.{verdict}
 use Rattle.table.specs.Parts.{lineFeed, before, picked}
@@ -55,7 +56,7 @@ abbrev pub planAfterLine : Awaits → List ℕ → List ℕ → List ℕ
 planAfterLine theHeader l plan = plan
 planAfterLine theDefaults l plan = plan
 planAfterLine (aJob kept n) l plan =
-    cond (judgedJob l kept .ok) (verdictPlan (judgedJob l kept) (verdict (picked 1 l kept)) (take 2561 plan) ++ drop 2561 plan) plan
+    cond (judgedJob l kept .ok) (verdictPlan (judgedJob l kept) (verdict (picked 1 l kept)) (take planLength plan) ++ drop planLength plan) plan
 planAfterLine nothing l plan = plan
 
 abbrev pub tableAfterLine : Awaits → List ℕ → List ℕ → List ℕ
@@ -78,7 +79,7 @@ mostPrinted = 134 + 42 * 4096
 
 -- A step is refused where a buffer is too short, or where the progress given is none that a run can have come to.
 abbrev pub haveRoom : ℕ → ℕ → ℕ → ℕ → ℕ → Bool
-haveRoom line defaults plan table out = leb 4097 line && (leb 4096 defaults && (leb 2561 plan && (leb 4096 table && leb mostPrinted out)))
+haveRoom line defaults plan table out = leb 4097 line && (leb 4096 defaults && (leb planLength plan && (leb 4096 table && leb mostPrinted out)))
 
 abbrev pub isReachable : Progress → Bool
 isReachable p = leb (p .held) 4097 && (leb (p .kept) 4096 && ltb (p .number) (2 ^ 64 - 1))

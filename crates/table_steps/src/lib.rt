@@ -9,6 +9,7 @@ ghost use mathlib.Core.Path.{_≡_};
 ghost use mathlib.Core.Bool.{true, false};
 ghost use Prim.Native.Nat.{_+_, _-_, _^_, _≤_, _<_};
 ghost use lib.ListN.{length};
+ghost use Rattle.plan.specs.Measures.{planLength};
 ghost use Rattle.table_progress.specs.Steps.{started, haveRoom, isReachable, mostPrinted, over, heldWith, stepped, lastLine, finished};
 
 const LINE_FEED: u8 = 10;
@@ -177,7 +178,7 @@ fn last_line(
     requires { ⌜ 4096 ≤ length (now defaults) ⌝ }
     requires { ⌜ progress .kept ≤ 4096 ⌝ }
     requires { ⌜ progress .number < 2 ^ 64 - 1 ⌝ }
-    requires { ⌜ 2561 ≤ length (now plan) ⌝ }
+    requires { ⌜ planLength ≤ length (now plan) ⌝ }
     requires { ⌜ 4096 ≤ length (now table) ⌝ }
     requires { ⌜ mostPrinted ≤ length (now out) ⌝ }
     ensures { λ r. ⌜

@@ -5,13 +5,14 @@ use native.Mathlib.Omega.{arith}
 use lib.ListN.{length, set, length-set}
 use lib.Seq.{paste, paste-zero}
 use borrow.Author.Needs.{needs}
+use Rattle.plan.specs.Measures.{rowLength}
 use Rattle.fold_rows.proofs.RowWords.{written-next, written-all}
 use Rattle.fold_rows.proofs.write_row.Statement.{statement}
 use Rattle.fold_rows.proofs.write_row.Tie as tie
 
 abbrev Inv-loop : tie.InvT-loop
 Inv-loop row₀ kind a b elements j₀ row j =
-    (j ≤ 17) × (length row ≡ 20) × (row ≡ paste row₀ 3 elements j)
+    (j ≤ 17) × (length row ≡ rowLength) × (row ≡ paste row₀ 3 elements j)
 
 abbrev μ-loop : tie.MeasureT-loop
 μ-loop row₀ kind a b elements j₀ row j = 17 - j
@@ -58,7 +59,7 @@ loop-again c =
     let t5 = c .before .before .args .t5 in
     let turn = c .before .loop in
     let row = set (set (set row 0 kind) 1 a) 2 b in
-    let long : length row ≡ 20 = simp length-set (c .before .before .pre) in
+    let long : length row ≡ rowLength = simp length-set (c .before .before .pre) in
     (omega arith, simp length-set (omega arith), written-next row t5 (turn .j) long (search needs) (omega arith) (turn .inv .2))
 
 same-length : tie.Need-same-length Inv-loop μ-loop

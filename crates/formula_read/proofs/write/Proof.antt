@@ -5,6 +5,7 @@ use Prim.Native.Nat.{ℕ}
 use lib.ListN.{drop, length-set}
 use borrow.Rule.Slice.PartMut.{same-len-mid}
 use borrow.Author.Needs.{needs}
+use Rattle.formula.specs.Words.{nodesLength, treeLength}
 use Rattle.formula_scan.proofs.Judging.{tree-cleared}
 use Rattle.formula_scan.proofs.Deciding.{accepted-written}
 use Rattle.formula_read.proofs.write.Statement.{statement}
@@ -43,15 +44,15 @@ same-length c =
     let zeros = c .before .before .before .before .before .before .clear .last .0 in
     let part = c .before .before .read-sum .last .1 .0 in
     simp length-set
-    (same-len-mid {X = ℕ} 1 256 (zeros ++ drop 257 tree) part (c .before .before .read-sum .kept .1 .0)
-    ∙ same-len-mid {X = ℕ} 0 257 tree zeros (c .before .before .before .before .before .before .clear .kept .0))
+    (same-len-mid {X = ℕ} 1 nodesLength (zeros ++ drop treeLength tree) part (c .before .before .read-sum .kept .1 .0)
+    ∙ same-len-mid {X = ℕ} 0 treeLength tree zeros (c .before .before .before .before .before .before .clear .kept .0))
 
 returns : tie.Need-returns
 returns c =
     let text = c .before .before .before .before .before .before .before .before .before .before .args .text .now in
     let tree = c .before .before .before .before .before .before .before .before .before .before .args .tree .now in
     let zeros = c .before .before .before .before .before .before .clear .last .0 in
-    λ t acc. accepted-written text tree (zeros ++ drop 257 tree) (c .before .before .read-sum .last .1 .0) (c .before .before .read-sum .result) t
+    λ t acc. accepted-written text tree (zeros ++ drop treeLength tree) (c .before .before .read-sum .last .1 .0) (c .before .before .read-sum .result) t
     (tree-cleared tree zeros (c .before .before .before .before .before .before .before .before .before .before .pre)
     (c .before .before .before .before .before .before .clear .ensures)) (c .before .before .read-sum .ensures) acc
 

@@ -5,6 +5,7 @@ use Prim.Native.Nat.{_-_, _≤_}
 use native.Mathlib.Omega.{arith}
 use lib.ListN.{length, set, drop, length-set, drop-of-length-le}
 use borrow.Author.Needs.{needs}
+use Rattle.plan.specs.Measures.{mostRows}
 use Rattle.plan.specs.Points.{rootValue, shiftedPlan}
 use Rattle.plan.specs.Plan.{sound}
 use Rattle.plan.specs.Filling.{planAfter, pointValues}
@@ -15,7 +16,7 @@ use Rattle.plan_fill.proofs.fill_points.Tie as tie
 
 abbrev Inv-loop : tie.InvT-loop
 Inv-loop plan₀ table₀ values₀ i₀ plan table values i =
-    (i ≤ length table₀) × (length table ≡ length table₀) × (length values ≡ 128)
+    (i ≤ length table₀) × (length table ≡ length table₀) × (length values ≡ mostRows)
     × (plan ≡ planAfter 64 i plan₀) × (table ≡ pointValues 64 i plan₀ ++ drop i table₀)
 
 abbrev μ-loop : tie.MeasureT-loop

@@ -4,6 +4,7 @@ use Prim.Native.Nat.{_+_, _*_}
 use native.Mathlib.Omega.{arith}
 use borrow.Author.Tests.{le-leb, lt-leb, not-true, not-false}
 use borrow.Author.Needs.{needs}
+use Rattle.plan.specs.Measures.{planLength, mostRows, rowStart}
 use Rattle.plan.specs.Row.{allZero}
 use Rattle.plan.specs.Plan.{rowCount, sound}
 use Rattle.plan.proofs.RowLaws.{slice-part}
@@ -21,7 +22,7 @@ returns-2 : tie.Need-returns-2
 unfolding sound
 returns-2 c =
     let plan = c .before .before .before .before .args .plan .now in
-    rw (le-leb 1 (rowCount plan) (omega arith), lt-leb (rowCount plan) 128 (omega arith))
+    rw (le-leb 1 (rowCount plan) (omega arith), lt-leb (rowCount plan) mostRows (omega arith))
 
 rows-are-sound-requires : tie.Need-rows-are-sound-requires
 rows-are-sound-requires c κs = search needs
@@ -31,7 +32,7 @@ unfolding sound
 returns-3 c =
     let plan = c .before .before .before .before .before .before .args .plan .now in
     rw
-    (le-leb 1 (rowCount plan) (omega arith), le-leb (rowCount plan) 128 (omega arith), sym (c .before .rows-are-sound .ensures) ∙ not-true _ (c .if3 .taken))
+    (le-leb 1 (rowCount plan) (omega arith), le-leb (rowCount plan) mostRows (omega arith), sym (c .before .rows-are-sound .ensures) ∙ not-true _ (c .if3 .taken))
 
 mul-end : tie.Need-mul-end
 mul-end c = search needs
@@ -60,10 +61,10 @@ returns-4 c =
     let plan = c .before .before .before .before .before .before .before .before .args .plan .now in
     rw (
       le-leb 1 (rowCount plan) (omega arith),
-      le-leb (rowCount plan) 128 (omega arith),
+      le-leb (rowCount plan) mostRows (omega arith),
       sym (c .before .before .before .rows-are-sound .ensures)
           ∙ not-false _ (c .before .before .if3 .left),
-    ) ((c .all-zero .ensures) ∙ ap allZero (sym (slice-part (1 + 20 * rowCount plan) 2561 plan)))
+    ) ((c .all-zero .ensures) ∙ ap allZero (sym (slice-part (rowStart (rowCount plan)) planLength plan)))
 
 pub is-sound-spec : {M : Type 1} → statement M
 is-sound-spec =

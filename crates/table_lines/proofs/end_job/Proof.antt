@@ -2,6 +2,7 @@
 use native.Mathlib.Omega.{arith}
 use lib.Seq.{length-take-le}
 use borrow.Author.Needs.{needs}
+use Rattle.plan.specs.Measures.{planLength}
 use Rattle.table_progress.proofs.LinesEnded.{few-points, job-ended}
 use Rattle.table_lines.proofs.end_job.Statement.{statement}
 use Rattle.table_lines.proofs.end_job.Tie as tie
@@ -35,7 +36,7 @@ print-job-requires c κs =
     let args = c .before .before .before .before .before .before .before .before .before .before .args in
     let table = length-take-le 4096 (args .table .now) (omega arith) in
     let few = few-points (args .line .now) (args .defaults .now) (c .before .before .before .before .judge-job .ensures) in
-    (length-take-le 2561 (args .plan .now) (omega arith), (omega (arith, table, few), (omega (arith, table), omega (arith, table))))
+    (length-take-le planLength (args .plan .now) (omega arith), (omega (arith, table, few), (omega (arith, table), omega (arith, table))))
 
 same-length : tie.Need-same-length
 same-length c = search needs

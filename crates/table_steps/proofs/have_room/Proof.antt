@@ -1,6 +1,7 @@
 -- `have_room` tests one length after the other.
 use native.Mathlib.Omega.{arith}
 use borrow.Author.Tests.{le-leb, lt-leb}
+use Rattle.plan.specs.Measures.{planLength}
 use Rattle.table_steps.proofs.have_room.Statement.{statement}
 use Rattle.table_steps.proofs.have_room.Tie as tie
 
@@ -15,7 +16,7 @@ returns-2 c =
 returns-3 : tie.Need-returns-3
 returns-3 c =
     let args = c .before .before .before .args in
-    rw (le-leb 4097 (args .line) (omega arith), le-leb 4096 (args .defaults) (omega arith), lt-leb 2561 (args .plan) (omega arith))
+    rw (le-leb 4097 (args .line) (omega arith), le-leb 4096 (args .defaults) (omega arith), lt-leb planLength (args .plan) (omega arith))
 
 returns-4 : tie.Need-returns-4
 returns-4 c =
@@ -23,7 +24,7 @@ returns-4 c =
     rw (
       le-leb 4097 (args .line) (omega arith),
       le-leb 4096 (args .defaults) (omega arith),
-      le-leb 2561 (args .plan) (omega arith),
+      le-leb planLength (args .plan) (omega arith),
       lt-leb 4096 (args .table) (omega arith),
     )
 
@@ -33,7 +34,7 @@ returns-5 c =
     rw (
       le-leb 4097 (args .line) (omega arith),
       le-leb 4096 (args .defaults) (omega arith),
-      le-leb 2561 (args .plan) (omega arith),
+      le-leb planLength (args .plan) (omega arith),
       le-leb 4096 (args .table) (omega arith),
     )
 

@@ -1,6 +1,7 @@
 -- `first_row` goes down from the operand's root. Invariant: row r is the root of a tree that begins where the operand does.
 use Prim.Native.Nat.{ℕ, _<_}
 use native.Mathlib.Omega.{arith}
+use Rattle.plan.specs.Measures.{mostRows}
 use Rattle.fold.proofs.ReadBack.{some-rows}
 use Rattle.fold_operands.specs.Operands.{One}
 use Rattle.compile.proofs.Finding.{Reached, reached-root, reached-next, reached-leaf}
@@ -8,7 +9,7 @@ use Rattle.compile.proofs.machine.first_row.Statement.{statement}
 use Rattle.compile.proofs.machine.first_row.Tie as tie
 
 abbrev Inv-loop : tie.InvT-loop
-Inv-loop plan end r₀ r = (r < 128) × ((first : ℕ) → One plan first end → Reached plan first r)
+Inv-loop plan end r₀ r = (r < mostRows) × ((first : ℕ) → One plan first end → Reached plan first r)
 
 abbrev μ-loop : tie.MeasureT-loop
 μ-loop plan end r₀ r = r

@@ -3,6 +3,7 @@ use mathlib.Core.Path.{ap, _∙_, subst}
 use Prim.Native.Nat.{_≤_}
 use native.Mathlib.Omega.{arith}
 use lib.ListN.{length, length-set}
+use Rattle.plan.specs.Measures.{mostRows}
 use Rattle.fold.specs.Folding.{fold}
 use Rattle.compile.proofs.Assembled.{assembled, whole-length}
 use borrow.Author.Needs.{needs}
@@ -88,7 +89,7 @@ same-length c =
     let at = (c .before .before .before .before .before .before .fold-nodes .ensures) (tree .0) (tree .1) (tree .2) in
     ap length (assembled start step plan folded (tree .0) rows (c .before .before .before .before .before .before .before .before .before .pre .0)
     (omega (arith, c .before .before .before .before .before .before .fold-nodes .kept)) at (c .before .before .clear .ensures)) ∙ whole-length (fold 64
-    start step (tree .0)) plan (subst (λ n. n ≤ 128) (at .rows) (at .few)) (c .before .before .before .before .before .before .before .before .before .pre .0)
+    start step (tree .0)) plan (subst (λ n. n ≤ mostRows) (at .rows) (at .few)) (c .before .before .before .before .before .before .before .before .before .pre .0)
 
 returns : tie.Need-returns
 returns c =

@@ -3,6 +3,7 @@ use mathlib.Core.Path.{_≡_, refl, ap, ap₂, _∙_}
 use Prim.Native.Nat.{_+_, _*_, _-_, _≤_}
 use native.Mathlib.Omega.{arith}
 use borrow.Author.Needs.{needs}
+use Rattle.plan.specs.Measures.{mostRows}
 use Rattle.plan.specs.Plan.{rowCount, rowsFrom, firstRows, costOf}
 use Rattle.plan.proofs.SoundLaws.{sound-count, part-length, part-kind, part-exponent, part-cost}
 use Rattle.plan.proofs.RowLaws.{cost-next}
@@ -10,7 +11,7 @@ use Rattle.plan_fill.proofs.costs.plan_cost.Statement.{statement}
 use Rattle.plan_fill.proofs.costs.plan_cost.Tie as tie
 
 abbrev Inv-loop : tie.InvT-loop
-Inv-loop plan count total₀ r₀ total r = (r ≤ count) × (total ≤ 128 * r) × (total ≡ costOf (firstRows r plan)) × (count ≤ 128)
+Inv-loop plan count total₀ r₀ total r = (r ≤ count) × (total ≤ 128 * r) × (total ≡ costOf (firstRows r plan)) × (count ≤ mostRows)
 
 abbrev μ-loop : tie.MeasureT-loop
 μ-loop plan count total₀ r₀ total r = count - r

@@ -5,6 +5,7 @@ use Prim.Native.Nat.{_-_, _≤_}
 use native.Mathlib.Omega.{arith}
 use lib.ListN.{length, take, length-set}
 use borrow.Author.Needs.{needs}
+use Rattle.plan.specs.Measures.{mostRows}
 use Rattle.plan.specs.Plan.{rowsFrom, firstRows}
 use Rattle.plan.specs.Points.{valuesFrom}
 use Rattle.plan.proofs.SoundLaws.{sound-count, part-length, part-a, part-b}
@@ -14,7 +15,7 @@ use Rattle.plan_fill.proofs.points.root_value.Tie as tie
 
 abbrev Inv-loop : tie.InvT-loop
 Inv-loop plan values₀ count r₀ values r =
-    (r ≤ count) × (length values ≡ 128) × (take r values ≡ valuesFrom 64 [] (firstRows r plan)) × (count ≤ 128)
+    (r ≤ count) × (length values ≡ mostRows) × (take r values ≡ valuesFrom 64 [] (firstRows r plan)) × (count ≤ mostRows)
 
 abbrev μ-loop : tie.MeasureT-loop
 μ-loop plan values₀ count r₀ values r = count - r

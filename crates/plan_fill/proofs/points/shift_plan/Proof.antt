@@ -5,6 +5,7 @@ use Prim.Native.Nat.{_-_, _≤_, _+_}
 use native.Mathlib.Omega.{arith}
 use lib.ListN.{length}
 use borrow.Author.Needs.{needs}
+use Rattle.plan.specs.Measures.{rowLength, mostRows}
 use Rattle.plan.specs.Row.{Row, kind, wordA, isChain}
 use Rattle.plan.specs.Plan.{rowCount}
 use Rattle.plan.proofs.SoundLaws.{sound-count, part-length, part-chain}
@@ -13,7 +14,7 @@ use Rattle.plan_fill.proofs.points.shift_plan.Statement.{statement}
 use Rattle.plan_fill.proofs.points.shift_plan.Tie as tie
 
 abbrev Inv-loop : tie.InvT-loop
-Inv-loop plan₀ count r₀ plan r = (r ≤ count) × (length plan ≡ length plan₀) × (plan ≡ shiftedTo 64 r plan₀) × (count ≤ 128)
+Inv-loop plan₀ count r₀ plan r = (r ≤ count) × (length plan ≡ length plan₀) × (plan ≡ shiftedTo 64 r plan₀) × (count ≤ mostRows)
 
 abbrev μ-loop : tie.MeasureT-loop
 μ-loop plan₀ count r₀ plan r = count - r
@@ -53,7 +54,7 @@ shift-row-requires c κs =
     let plan = c .before .before .before .before .before .args .plan .now in
     let turn = c .before .before .loop in
     let asked = c .before .before .before .before .before .pre in
-    subst (λ (x : Row). (length x ≡ 20) × (isChain (kind x) ≡ true → wordA x ≤ 16)) (waiting 64 (turn .r) plan (turn .inv .2))
+    subst (λ (x : Row). (length x ≡ rowLength) × (isChain (kind x) ≡ true → wordA x ≤ 16)) (waiting 64 (turn .r) plan (turn .inv .2))
     (part-length plan (turn .r) (asked .0) (asked .1) (omega arith), part-chain plan (turn .r) (asked .0) (asked .1) (omega arith))
 
 add-r : tie.Need-add-r Inv-loop μ-loop
