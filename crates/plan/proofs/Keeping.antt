@@ -2,19 +2,19 @@
 use mathlib.Core.Path.{_≡_, refl, sym, ap, ap₂, _∙_}
 use mathlib.Core.Bool.{Bool, true, false, cond, _&&_, _||_, true≢false}
 use mathlib.Core.List.{List, [], _∷_, _++_, map, map-append, append-assoc}
-use Prim.Native.Nat.{ℕ, zero, suc, _+_, _-_, _*_, _%_, _^_, _<_}
+use Prim.Native.Nat.{ℕ, zero, suc, _+_, _-_, _*_, _%_, _^_, _≤_, _<_}
 use native.Mathlib.Nat.{zero-add, suc-add, suc-inj, suc-ne-zero, add-comm}
 use native.Mathlib.Omega.{arith}
 use lib.Dec.{eqb, ltb}
 use lib.ListN.{length, getD, take, drop, length-map, length-append, take-append-drop, List·getD-map}
-use lib.Seq.{slice, take-add, drop-drop, getD-take, length-front}
+use lib.Seq.{slice, take-add, take-take, drop-drop, getD-take, length-front}
 use borrow.Author.Tests.{eqb-true}
-use Rattle.plan.specs.Measures.{planLength, rowLength, mostRows, rowStart}
+use Rattle.plan.specs.Measures.{elementsStart, elementCount, planLength, rowLength, mostRows, rowStart}
 use Rattle.chain.specs.Chain.{shift, words}
 use Rattle.chain.specs.SumChain.{sumShift}
 use Rattle.chain.specs.ProductChain.{productShift}
 use Rattle.chain.proofs.Shifting.{length-shift}
-use Rattle.plan.specs.Row.{Row, kind, wordA, wordB, elements, isChain, rowCost, elementsUsed}
+use Rattle.plan.specs.Row.{Row, kind, wordA, wordB, elements, firstElement, isChain, rowCost, elementsUsed}
 use Rattle.plan.specs.Row.{between, allZero, keepsTable, oddConstant, soundBase, soundRow}
 use Rattle.plan.specs.Plan.{rowCount, row, rowsFrom, rows, soundFrom, sound, costOf, cost, refusal}
 use Rattle.plan.specs.Points.{withChain, chainOf, shiftedRow, shiftedFrom, shiftedPlan}
@@ -40,21 +40,35 @@ drop-front (suc n) [] (x ∷ e) g h k = absurd (suc-ne-zero (length e) h)
 drop-front (suc n) (y ∷ l) [] g h k = absurd (suc-ne-zero (length (take n l)) (sym h))
 drop-front (suc n) (y ∷ l) (x ∷ e) g h k = drop-front n l e g (suc-inj h) k
 
+-- The words after the first n, cut at a later place.
+cut : (n m : ℕ) (l : List ℕ) → n ≤ m → drop n l ≡ drop n (take m l) ++ drop m l
+cut zero m l h = sym (take-append-drop m l)
+cut (suc n) zero l h = absurd (omega arith)
+cut (suc n) (suc m) [] h = refl
+cut (suc n) (suc m) (a ∷ l) h = cut n m l (omega arith)
+
 -- ---- one row
-chain-end : (row : Row) → 4 + wordA row ≡ 3 + (1 + wordA row)
+-- The elements that a chain's row uses, as the code lends them and puts them back.
+chain-end : (row : Row) → elementsStart + (1 + wordA row) - elementsStart ≡ 1 + wordA row
 chain-end row = omega arith
 
--- The elements that a chain's row uses, as the code lends them and puts them back.
-pub chain-part : (row : Row) → part 3 (4 + wordA row) row ≡ chainOf row
-chain-part row = ap (λ n. take n (drop 3 row)) count
+pub chain-part : (row : Row) → wordA row < elementCount → part elementsStart (elementsStart + (1 + wordA row)) row ≡ chainOf row
+chain-part row h =
+    ap (λ n. take n (drop elementsStart row)) (chain-end row)
+    ∙ sym (take-take (1 + wordA row) elementCount (drop elementsStart row) (omega arith))
+
+pub chain-put : (row : Row) (f : List ℕ) → wordA row < elementCount
+    → partPut elementsStart (elementsStart + (1 + wordA row)) row f ≡ withChain row f
+chain-put row f h =
+    ap (λ n. take elementsStart row ++ (f ++ drop n (drop elementsStart row))) (chain-end row)
+    ∙ ap (λ g. take elementsStart row ++ g) (ap (λ g. f ++ g) behind ∙ sym (append-assoc f _ _))
   where
-    count : 4 + wordA row - 3 ≡ 1 + wordA row
-    count = omega arith
+    behind : drop (1 + wordA row) (drop elementsStart row) ≡ drop (1 + wordA row) (elements row) ++ drop (elementsStart + elementCount) row
+    behind =
+        cut (1 + wordA row) elementCount (drop elementsStart row) (omega arith)
+        ∙ ap (λ g. drop (1 + wordA row) (elements row) ++ g) (drop-drop elementCount elementsStart row)
 
-pub chain-put : (row : Row) (f : List ℕ) → partPut 3 (4 + wordA row) row f ≡ withChain row f
-chain-put row f = part-put 3 (4 + wordA row) row f (omega arith)
-
--- A row with its chain shifted, by + or by *: what comes before the elements, and what comes after the chain, stays in its place.
+-- A row with its chain shifted, by + or by *: what comes before the elements, after the chain and after the elements stays in its place.
 module _ (_⊙_ : ℕ → ℕ → ℕ) (w : ℕ) (row : Row) where
   chain : List ℕ
   chain = words w (shift _⊙_ (chainOf row))
@@ -63,33 +77,50 @@ module _ (_⊙_ : ℕ → ℕ → ℕ) (w : ℕ) (row : Row) where
   unfolding chain
   length-chain = length-map (shift _⊙_ (chainOf row)) (λ a. a % 2 ^ w) ∙ length-shift _⊙_ (chainOf row)
 
-  after : drop (4 + wordA row) row ≡ drop (1 + wordA row) (elements row)
-  after = ap (λ n. drop n row) (chain-end row) ∙ sym (drop-drop (1 + wordA row) 3 row)
+  new : List ℕ
+  new = chain ++ drop (1 + wordA row) (elements row)
 
-  length-elements : length (chain ++ drop (4 + wordA row) row) ≡ length (elements row)
-  length-elements = ap (λ f. length (chain ++ f)) after ∙ length-front (elements row) chain (1 + wordA row) length-chain
+  rest : List ℕ
+  rest = drop (elementsStart + elementCount) row
 
-  whole : withChain row chain ≡ take 3 row ++ (chain ++ drop (4 + wordA row) row)
-  whole = append-assoc (take 3 row) chain (drop (4 + wordA row) row)
+  length-new : length new ≡ length (elements row)
+  unfolding new
+  length-new = length-front (elements row) chain (1 + wordA row) length-chain
 
-  first : take 3 (withChain row chain) ≡ take 3 row
-  first = ap (λ f. take 3 f) whole ∙ take-front 3 row (take 3 row) (chain ++ drop (4 + wordA row) row) refl length-elements
+  rest-behind : rest ≡ drop elementCount (drop elementsStart row)
+  unfolding rest
+  rest-behind = sym (drop-drop elementCount elementsStart row)
 
-  later : elements (withChain row chain) ≡ chain ++ drop (4 + wordA row) row
-  later = ap (λ f. drop 3 f) whole ∙ drop-front 3 row (take 3 row) (chain ++ drop (4 + wordA row) row) refl length-elements
+  length-behind : length (new ++ rest) ≡ length (drop elementsStart row)
+  length-behind =
+      length-append new rest
+      ∙ ap₂ _+_ length-new (ap length rest-behind)
+      ∙ sym (length-append (elements row) (drop elementCount (drop elementsStart row)))
+      ∙ ap length (take-append-drop elementCount (drop elementsStart row))
+
+  first : take elementsStart (withChain row chain) ≡ take elementsStart row
+  unfolding new rest
+  first = take-front elementsStart row (take elementsStart row) (new ++ rest) refl length-behind
+
+  later : elements (withChain row chain) ≡ new
+  unfolding new rest
+  later =
+      ap (λ f. take elementCount f) (drop-front elementsStart row (take elementsStart row) (new ++ rest) refl length-behind)
+      ∙ take-front elementCount (drop elementsStart row) new rest length-new (ap length rest-behind)
 
   past : drop (1 + wordA row) (elements (withChain row chain)) ≡ drop (1 + wordA row) (elements row)
+  unfolding new
   past =
-      ap (λ f. drop (1 + wordA row) f) (later ∙ ap (λ f. chain ++ f) after)
+      ap (λ f. drop (1 + wordA row) f) later
       ∙ drop-front (1 + wordA row) (elements row) chain (drop (1 + wordA row) (elements row)) length-chain refl
 
   long : length (withChain row chain) ≡ length row
+  unfolding new rest
   long =
-      ap length whole
-      ∙ length-append (take 3 row) (chain ++ drop (4 + wordA row) row)
-      ∙ ap (λ n. length (take 3 row) + n) length-elements
-      ∙ sym (length-append (take 3 row) (elements row))
-      ∙ ap length (take-append-drop 3 row)
+      length-append (take elementsStart row) (new ++ rest)
+      ∙ ap (λ n. length (take elementsStart row) + n) length-behind
+      ∙ sym (length-append (take elementsStart row) (drop elementsStart row))
+      ∙ ap length (take-append-drop elementsStart row)
 
 -- What a shift makes of a row, by its kind.
 pub shifted-sum : (w : ℕ) (row : Row) → kind row ≡ 1 → shiftedRow w row ≡ withChain row (words w (sumShift (chainOf row)))
@@ -125,12 +156,12 @@ by-kind P w row sum product same =
 pub length-shifted : (w : ℕ) (row : Row) → length (shiftedRow w row) ≡ length row
 length-shifted w row = by-kind (λ x. length x ≡ length row) w row (λ _. long _+_ w row) (λ _. long _*_ w row) refl
 
-pub first-shifted : (w : ℕ) (row : Row) → take 3 (shiftedRow w row) ≡ take 3 row
-first-shifted w row = by-kind (λ x. take 3 x ≡ take 3 row) w row (λ _. first _+_ w row) (λ _. first _*_ w row) refl
+pub first-shifted : (w : ℕ) (row : Row) → take elementsStart (shiftedRow w row) ≡ take elementsStart row
+first-shifted w row = by-kind (λ x. take elementsStart x ≡ take elementsStart row) w row (λ _. first _+_ w row) (λ _. first _*_ w row) refl
 
-entry-shifted : (w : ℕ) (row : Row) (i : ℕ) → i < 3 → getD (shiftedRow w row) i 0 ≡ getD row i 0
+entry-shifted : (w : ℕ) (row : Row) (i : ℕ) → i < elementsStart → getD (shiftedRow w row) i 0 ≡ getD row i 0
 entry-shifted w row i h =
-    sym (getD-take 3 (shiftedRow w row) i 0 h) ∙ ap (λ f. getD f i 0) (first-shifted w row) ∙ getD-take 3 row i 0 h
+    sym (getD-take elementsStart (shiftedRow w row) i 0 h) ∙ ap (λ f. getD f i 0) (first-shifted w row) ∙ getD-take elementsStart row i 0 h
 
 pub kind-shifted : (w : ℕ) (row : Row) → kind (shiftedRow w row) ≡ kind row
 kind-shifted w row = entry-shifted w row 0 (omega arith)
@@ -229,8 +260,8 @@ keeps-shifted w r row = rw (kind-shifted w row, a-shifted w row, b-shifted w row
 odd-shifted : (w : ℕ) (row : Row) → oddConstant (shiftedRow w row) ≡ oddConstant row
 odd-shifted w row = rw (kind-shifted w row) (constant (eqb (kind row) 0) refl)
   where
-    constant : (b : Bool) → eqb (kind row) 0 ≡ b → (b && eqb (getD (shiftedRow w row) 3 0 % 2) 1) ≡ (b && eqb (getD row 3 0 % 2) 1)
-    constant true e = ap (λ x. eqb (getD x 3 0 % 2) 1) (shifted-other w row (ap (λ k. isChain k) (eqb-true (kind row) 0 e)))
+    constant : (b : Bool) → eqb (kind row) 0 ≡ b → (b && eqb (firstElement (shiftedRow w row) % 2) 1) ≡ (b && eqb (firstElement row % 2) 1)
+    constant true e = ap (λ x. eqb (firstElement x % 2) 1) (shifted-other w row (ap (λ k. isChain k) (eqb-true (kind row) 0 e)))
     constant false e = refl
 
 nothing : (w : ℕ) → shiftedRow w [] ≡ []
