@@ -1,7 +1,7 @@
 -- `is_chain` tells the kinds 1 and 2.
 use borrow.Author.Tests.{eq-eqb, ne-eqb}
-use Rattle.plan_sound.proofs.kinds.is_chain.Statement.{statement}
-use Rattle.plan_sound.proofs.kinds.is_chain.Tie as tie
+use Rattle.plan_rows.proofs.kinds.is_chain.Statement.{statement}
+use Rattle.plan_rows.proofs.kinds.is_chain.Tie as tie
 
 returns : tie.Need-returns
 returns c = rw (eq-eqb (c .before .args .kind) 1 (c .if1 .taken))

@@ -2,8 +2,8 @@
 use mathlib.Core.Path.{refl}
 use borrow.Author.Needs.{needs}
 use Rattle.plan.specs.Row.{kindFacts}
-use Rattle.plan_sound.proofs.kinds.facts.Statement.{statement}
-use Rattle.plan_sound.proofs.kinds.facts.Tie as tie
+use Rattle.plan_rows.proofs.kinds.facts.Statement.{statement}
+use Rattle.plan_rows.proofs.kinds.facts.Tie as tie
 
 mul-result : tie.Need-mul-result
 mul-result c = search needs
