@@ -1,19 +1,18 @@
--- The lines that a job prints, and what it leaves in the plan and the table it works with.
+-- What a job prints, as a function of its line, and what it leaves in the plan and the table it works with.
 use mathlib.Core.Path.{_≡_}
 use mathlib.Core.Bool.{cond}
-use mathlib.Core.List.{List, [], _∷_, _++_}
-use Prim.Native.Nat.{ℕ, zero, suc}
+use mathlib.Core.List.{List, _++_}
+use Prim.Native.Nat.{ℕ}
 use lib.ListN.{drop}
 use Rattle.formula.specs.Tree.{Tree}
-use Rattle.formula.specs.Value.{directValue}
 use Rattle.formula_scan.specs.Verdict.{Verdict, refused, accepted, verdict}
 use Rattle.plan.specs.Plan.{rowCount, cost}
 use Rattle.plan.specs.Filling.{planAfter, pointValues}
 use Rattle.fold.specs.Folding.{fold}
 use Rattle.fold.specs.Layout.{planWords}
-use Rattle.table.specs.Decimal.{decimal}
+use Rattle.table.specs.Lines.{noLine, jobLine, pointLines}
 use Rattle.table_fields.specs.Writing.{Wrote}
-use Rattle.table.specs.Parts.{tab, lineFeed, picked}
+use Rattle.table.specs.Parts.{picked}
 use Rattle.table.specs.Judged.{judgedJob}
 use Rattle.table.specs.declared.JobLine.{JobLine}
 

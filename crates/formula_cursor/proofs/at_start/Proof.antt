@@ -37,7 +37,7 @@ use denote.Exit.{yes}
 use Rattle.formula_cursor.specs.declared.Cursor.{Cursor}
 use Rattle.formula_cursor.proofs.Cursor as T
 use Rattle.formula_cursor.proofs.Cursor.Laws as T′
-use Rattle.formula_cursor.proofs.at_start.Key.{name as #cursor·at-start}
+use Rattle.formula_cursor.proofs.at_start.Key.{name as #formula_cursor·at-start}
 use Rattle.formula_cursor.proofs.at_start as start
 use Rattle.formula_cursor.proofs.at_start.Statement as stated
 use Rattle.formula_cursor.proofs.at_start.Code as code
@@ -94,5 +94,5 @@ pub at-start-spec : {M : Type 1} → stated.statement M
 unfolding code.routine tablesOf
 at-start-spec 𝓤 H 𝓜 𝓖 𝓡 =
     entered 𝓤 H (tripleOf 𝓤 H (𝓖 .A) start.signature (start.spec 𝓤 H (𝓖 .A) (𝓜 .mem) (𝓡 .run)))
-    (tables 𝓤 H 𝓜 𝓡 code.env .C) (tables 𝓤 H 𝓜 𝓡 code.env .Λ) #cursor·at-start code.function (code.unfolded 𝓤 H 𝓜 𝓡)
+    (tables 𝓤 H 𝓜 𝓡 code.env .C) (tables 𝓤 H 𝓜 𝓡 code.env .Λ) #formula_cursor·at-start code.function (code.unfolded 𝓤 H 𝓜 𝓡)
     (at-start-meets 𝓤 H (𝓖 .A) (givenOf 𝓤 H 𝓜 𝓖) (𝓜 .mem) (𝓡 .run) (tablesOf 𝓤 H 𝓜 (tables 𝓤 H 𝓜 𝓡 code.env)))

@@ -51,9 +51,9 @@ use Rattle.formula_cursor.proofs.Cursor as T
 use Rattle.formula_cursor.proofs.Cursor.Laws as T′
 use Rattle.formula_cursor.proofs.if_ended as if-ended
 use Rattle.formula_cursor.proofs.if_ended.Symbol as if-ended-def
-use Rattle.formula_cursor.proofs.if_ended.Symbol.{name as #cursor·if-ended}
+use Rattle.formula_cursor.proofs.if_ended.Symbol.{name as #formula_cursor·if-ended}
 use Rattle.formula_cursor.proofs.if_ended.Met as if-ended-thm
-use Rattle.formula_cursor.proofs.if_at_end.Key.{name as #cursor·if-at-end}
+use Rattle.formula_cursor.proofs.if_at_end.Key.{name as #formula_cursor·if-at-end}
 use Rattle.formula_cursor.proofs.if_at_end as if-at-end
 use Rattle.formula_cursor.proofs.if_at_end.Statement as stated
 use Rattle.formula_cursor.proofs.if_at_end.Code as code
@@ -135,7 +135,7 @@ module _ {M : Type 1} (𝓤 : URA M) (H : Heap 𝓤) (A : Atoms 𝓤) (W : Given
       suffices ! _ (ends-at 𝓤 H A if-at-end.ended stayed (if-at-end.clauses 𝓤 H A mem run) W (((κ, tt), (q, tt), tt, (d, (f, tt)), at), tt) u r (tt, (tt, tt)) (tt, (tt, tt))) $ says ! e $
       move ! (1 ∷ []) $ frame ! $ nothing ! $ owned ! F.the-row (Is F.the-row) (LL.makes F.the-type F′.the-plain 𝓤 H A) f _ known-f $ fjoin ! $ move ! (2 ∷ 0 ∷ []) $ fjoin ! $ frame ! $ done !
 
-  module _ (C : Calls 𝓤 H) (Λ : Loops 𝓤 H) (fm : FmC 𝓤 H (W .laws) C) (known : Triple 𝓤 (C #cursor·if-ended) (IfEnded 𝓤 H A mem run)) where
+  module _ (C : Calls 𝓤 H) (Λ : Loops 𝓤 H) (fm : FmC 𝓤 H (W .laws) C) (known : Triple 𝓤 (C #formula_cursor·if-ended) (IfEnded 𝓤 H A mem run)) where
     walk : Holds (hasTy (T′.mir (named 0)) mach) × WT mach → Holds (hasTy F′.mir found) × WT found → ent 𝓤 (onEntry 𝓤 H A if-at-end.signature (κ, tt) (q, tt) (d, (f, tt)) at) (WpFn 𝓤 H C Λ code.function (mach ∷ found ∷ []) Post)
     walk wt ft =
         qed W (raw (onEntry 𝓤 H A if-at-end.signature (κ, tt) (q, tt) (d, (f, tt)) at) ∷ []) ∵ enter ! C Λ code.function (mach ∷ found ∷ []) _ $
@@ -153,14 +153,14 @@ module _ {M : Type 1} (𝓤 : URA M) (H : Heap 𝓤) (A : Atoms 𝓤) (W : Given
         move ! (11 ∷ 12 ∷ []) $ free1 ! $ move ! (9 ∷ 10 ∷ []) $ free1 ! $ move ! (7 ∷ 8 ∷ []) $ free1 ! $ move ! (5 ∷ 6 ∷ []) $ free1 ! $ move ! (3 ∷ 4 ∷ []) $ free1 ! $ free0 ! $ by ! (exits r u e))))))))))
 
 module _ {M : Type 1} (𝓤 : URA M) (H : Heap 𝓤) (A : Atoms 𝓤) (W : Given 𝓤 H A) (mem : Memory → SProp 𝓤) (run : Routine → Fun 𝓤) where
-  if-at-end-walks : (C : Calls 𝓤 H) (Λ : Loops 𝓤 H) → FmC 𝓤 H (W .laws) C → Triple 𝓤 (C #cursor·if-ended) (IfEnded 𝓤 H A mem run)
+  if-at-end-walks : (C : Calls 𝓤 H) (Λ : Loops 𝓤 H) → FmC 𝓤 H (W .laws) C → Triple 𝓤 (C #formula_cursor·if-ended) (IfEnded 𝓤 H A mem run)
       → Walks 𝓤 H A if-at-end.ended stayed (WpFn 𝓤 H C Λ code.function) (if-at-end.clauses 𝓤 H A mem run)
   if-at-end-walks C Λ fm known = walked 𝓤 H A if-at-end.ended stayed (if-at-end.clauses 𝓤 H A mem run) (WpFn 𝓤 H C Λ code.function) (λ κs. (LL.vals (T.the-type (namedLft 1 0 tt κs)) (T′.the-laws (namedLft 1 0 tt κs)), (LL.vals F.the-type F′.the-laws, tt))) (λ κs. (LL.tells (T.the-type (namedLft 1 0 tt κs)) (T′.the-laws (namedLft 1 0 tt κs)), (LL.tells F.the-type F′.the-laws, tt)))
       (λ κs qs bounds a g are. via 𝓤 _ (fst∗ 𝓤 _ (emp 𝓤)) (walk 𝓤 H A W mem run (κs .0) (qs .0) (a .0) (a .1 .0) (are .1 .0) C Λ fm known
       (LL.lawful (T.the-type (namedLft 1 0 tt κs)) (T′.the-laws (namedLft 1 0 tt κs)) 𝓤 H A W .typed (a .0) _ (are .0) .0) (LL.lawful F.the-type F′.the-laws 𝓤 H A W .typed (a .1 .0) _ (are .1 .0) .0)))
 
 if-at-end-meets : {M : Type 1} (𝓤 : URA M) (H : Heap 𝓤) (A : Atoms 𝓤) (W : Given 𝓤 H A) (mem : Memory → SProp 𝓤) (run : Routine → Fun 𝓤) (𝓣 : Tables 𝓤 H)
-    → Triple 𝓤 (𝓣 .C #cursor·if-ended) (IfEnded 𝓤 H A mem run)
+    → Triple 𝓤 (𝓣 .C #formula_cursor·if-ended) (IfEnded 𝓤 H A mem run)
     → Meets 𝓤 H A if-at-end.signature (WpFn 𝓤 H (𝓣 .C) (𝓣 .Λ) code.function) (if-at-end.spec 𝓤 H A mem run)
 if-at-end-meets 𝓤 H A W mem run 𝓣 known-if-ended = walk-meets 𝓤 H A if-at-end.ended stayed W (goes-none 𝓤 H A W 1 B yes (λ κs x f. refl), (goes-none 𝓤 H A W 1 (λ _. F.the-row) yes (λ κs x f. refl), tt)) (if-at-end.clauses 𝓤 H A mem run) (WpFn 𝓤 H (𝓣 .C) (𝓣 .Λ) code.function) (WpFn-mono 𝓤 H (W .laws) 𝓣 code.function)
     (if-at-end-walks 𝓤 H A W mem run (𝓣 .C) (𝓣 .Λ) (fmOf 𝓤 H (W .laws) 𝓣) known-if-ended)
@@ -169,6 +169,6 @@ pub if-at-end-spec : {M : Type 1} → stated.statement M
 unfolding code.routine tablesOf
 if-at-end-spec 𝓤 H 𝓜 𝓖 𝓡 =
     entered 𝓤 H (tripleOf 𝓤 H (𝓖 .A) if-at-end.signature (if-at-end.spec 𝓤 H (𝓖 .A) (𝓜 .mem) (𝓡 .run)))
-    (tables 𝓤 H 𝓜 𝓡 code.env .C) (tables 𝓤 H 𝓜 𝓡 code.env .Λ) #cursor·if-at-end code.function (code.unfolded 𝓤 H 𝓜 𝓡)
+    (tables 𝓤 H 𝓜 𝓡 code.env .C) (tables 𝓤 H 𝓜 𝓡 code.env .Λ) #formula_cursor·if-at-end code.function (code.unfolded 𝓤 H 𝓜 𝓡)
     (if-at-end-meets 𝓤 H (𝓖 .A) (givenOf 𝓤 H 𝓜 𝓖) (𝓜 .mem) (𝓡 .run) (tablesOf 𝓤 H 𝓜 (tables 𝓤 H 𝓜 𝓡 code.env))
-    (cited 𝓤 H (IfEnded 𝓤 H (𝓖 .A) (𝓜 .mem) (𝓡 .run)) 𝓜 𝓡 code.env #cursor·if-ended if-ended-def.routine code.calls-cursor·if-ended (if-ended-thm.met 𝓤 H 𝓜 𝓖 𝓡)))
+    (cited 𝓤 H (IfEnded 𝓤 H (𝓖 .A) (𝓜 .mem) (𝓡 .run)) 𝓜 𝓡 code.env #formula_cursor·if-ended if-ended-def.routine code.calls-formula-cursor·if-ended (if-ended-thm.met 𝓤 H 𝓜 𝓖 𝓡)))

@@ -40,7 +40,7 @@ use Rattle.formula_scan.proofs.Found.Laws as F′
 use Rattle.formula_cursor.specs.declared.Cursor.{Cursor}
 use Rattle.formula_cursor.proofs.Cursor as T
 use Rattle.formula_cursor.proofs.Cursor.Laws as T′
-use Rattle.formula_cursor.proofs.past.Key.{name as #cursor·past}
+use Rattle.formula_cursor.proofs.past.Key.{name as #formula_cursor·past}
 use Rattle.formula_cursor.proofs.past as past
 use Rattle.formula_cursor.proofs.past.Statement as stated
 use Rattle.formula_cursor.proofs.past.Code as code
@@ -105,5 +105,5 @@ pub past-spec : {M : Type 1} → stated.statement M
 unfolding code.routine tablesOf
 past-spec 𝓤 H 𝓜 𝓖 𝓡 =
     entered 𝓤 H (tripleOf 𝓤 H (𝓖 .A) past.signature (past.spec 𝓤 H (𝓖 .A) (𝓜 .mem) (𝓡 .run)))
-    (tables 𝓤 H 𝓜 𝓡 code.env .C) (tables 𝓤 H 𝓜 𝓡 code.env .Λ) #cursor·past code.function (code.unfolded 𝓤 H 𝓜 𝓡)
+    (tables 𝓤 H 𝓜 𝓡 code.env .C) (tables 𝓤 H 𝓜 𝓡 code.env .Λ) #formula_cursor·past code.function (code.unfolded 𝓤 H 𝓜 𝓡)
     (past-meets 𝓤 H (𝓖 .A) (givenOf 𝓤 H 𝓜 𝓖) (𝓜 .mem) (𝓡 .run) (tablesOf 𝓤 H 𝓜 (tables 𝓤 H 𝓜 𝓡 code.env)))

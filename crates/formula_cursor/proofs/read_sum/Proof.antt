@@ -51,9 +51,9 @@ use Rattle.formula_cursor.proofs.Cursor as T
 use Rattle.formula_cursor.proofs.Cursor.Laws as T′
 use Rattle.formula_cursor.proofs.sum_from as sum-from
 use Rattle.formula_cursor.proofs.sum_from.Symbol as sum-from-def
-use Rattle.formula_cursor.proofs.sum_from.Symbol.{name as #cursor·sum-from}
+use Rattle.formula_cursor.proofs.sum_from.Symbol.{name as #formula_cursor·sum-from}
 use Rattle.formula_cursor.proofs.sum_from.Met as sum-from-thm
-use Rattle.formula_cursor.proofs.read_sum.Key.{name as #cursor·read-sum}
+use Rattle.formula_cursor.proofs.read_sum.Key.{name as #formula_cursor·read-sum}
 use Rattle.formula_cursor.proofs.read_sum as read-sum
 use Rattle.formula_cursor.proofs.read_sum.Statement as stated
 use Rattle.formula_cursor.proofs.read_sum.Code as code
@@ -128,7 +128,7 @@ module _ {M : Type 1} (𝓤 : URA M) (H : Heap 𝓤) (A : Atoms 𝓤) (W : Given
       suffices ! _ (ends-at 𝓤 H A read-sum.ended stayed (read-sum.clauses 𝓤 H A mem run) W (((κ, tt), (q, tt), tt, (d, tt), (mach ∷ [], tt)), tt) u r (tt, tt) (tt, tt)) $ says ! e $
       move ! (1 ∷ []) $ frame ! $ nothing ! $ move ! (2 ∷ 0 ∷ []) $ fjoin ! $ frame ! $ done !
 
-  module _ (C : Calls 𝓤 H) (Λ : Loops 𝓤 H) (fm : FmC 𝓤 H (W .laws) C) (known : Triple 𝓤 (C #cursor·sum-from) (SumFrom 𝓤 H A mem run)) where
+  module _ (C : Calls 𝓤 H) (Λ : Loops 𝓤 H) (fm : FmC 𝓤 H (W .laws) C) (known : Triple 𝓤 (C #formula_cursor·sum-from) (SumFrom 𝓤 H A mem run)) where
     walk : Holds (hasTy (T′.mir (named 0)) mach) × WT mach → ent 𝓤 (onEntry 𝓤 H A read-sum.signature (κ, tt) (q, tt) (d, tt) (mach ∷ [], tt)) (WpFn 𝓤 H C Λ code.function (mach ∷ []) Post)
     walk wt =
         qed W (raw (onEntry 𝓤 H A read-sum.signature (κ, tt) (q, tt) (d, tt) (mach ∷ [], tt)) ∷ []) ∵ enter ! C Λ code.function (mach ∷ []) _ $
@@ -146,13 +146,13 @@ module _ {M : Type 1} (𝓤 : URA M) (H : Heap 𝓤) (A : Atoms 𝓤) (W : Given
         move ! (9 ∷ 10 ∷ []) $ free1 ! $ move ! (7 ∷ 8 ∷ []) $ free1 ! $ move ! (5 ∷ 6 ∷ []) $ free1 ! $ move ! (3 ∷ 4 ∷ []) $ free1 ! $ free0 ! $ by ! (exits r u e)))))))))
 
 module _ {M : Type 1} (𝓤 : URA M) (H : Heap 𝓤) (A : Atoms 𝓤) (W : Given 𝓤 H A) (mem : Memory → SProp 𝓤) (run : Routine → Fun 𝓤) where
-  read-sum-walks : (C : Calls 𝓤 H) (Λ : Loops 𝓤 H) → FmC 𝓤 H (W .laws) C → Triple 𝓤 (C #cursor·sum-from) (SumFrom 𝓤 H A mem run)
+  read-sum-walks : (C : Calls 𝓤 H) (Λ : Loops 𝓤 H) → FmC 𝓤 H (W .laws) C → Triple 𝓤 (C #formula_cursor·sum-from) (SumFrom 𝓤 H A mem run)
       → Walks 𝓤 H A read-sum.ended stayed (WpFn 𝓤 H C Λ code.function) (read-sum.clauses 𝓤 H A mem run)
   read-sum-walks C Λ fm known = walked 𝓤 H A read-sum.ended stayed (read-sum.clauses 𝓤 H A mem run) (WpFn 𝓤 H C Λ code.function) (λ κs. (LL.vals (T.the-type (namedLft 1 0 tt κs)) (T′.the-laws (namedLft 1 0 tt κs)), tt)) (λ κs. (LL.tells (T.the-type (namedLft 1 0 tt κs)) (T′.the-laws (namedLft 1 0 tt κs)), tt))
       (λ κs qs bounds a g are. needs 𝓤 _ _ (λ within. walk 𝓤 H A W mem run (κs .0) (qs .0) (a .0) within C Λ fm known (LL.lawful (T.the-type (namedLft 1 0 tt κs)) (T′.the-laws (namedLft 1 0 tt κs)) 𝓤 H A W .typed (a .0) _ (are .0) .0)))
 
 read-sum-meets : {M : Type 1} (𝓤 : URA M) (H : Heap 𝓤) (A : Atoms 𝓤) (W : Given 𝓤 H A) (mem : Memory → SProp 𝓤) (run : Routine → Fun 𝓤) (𝓣 : Tables 𝓤 H)
-    → Triple 𝓤 (𝓣 .C #cursor·sum-from) (SumFrom 𝓤 H A mem run)
+    → Triple 𝓤 (𝓣 .C #formula_cursor·sum-from) (SumFrom 𝓤 H A mem run)
     → Meets 𝓤 H A read-sum.signature (WpFn 𝓤 H (𝓣 .C) (𝓣 .Λ) code.function) (read-sum.spec 𝓤 H A mem run)
 read-sum-meets 𝓤 H A W mem run 𝓣 known-sum-from = walk-meets 𝓤 H A read-sum.ended stayed W (goes-none 𝓤 H A W 1 B yes (λ κs x f. refl), tt) (read-sum.clauses 𝓤 H A mem run) (WpFn 𝓤 H (𝓣 .C) (𝓣 .Λ) code.function) (WpFn-mono 𝓤 H (W .laws) 𝓣 code.function)
     (read-sum-walks 𝓤 H A W mem run (𝓣 .C) (𝓣 .Λ) (fmOf 𝓤 H (W .laws) 𝓣) known-sum-from)
@@ -161,6 +161,6 @@ pub read-sum-spec : {M : Type 1} → stated.statement M
 unfolding code.routine tablesOf
 read-sum-spec 𝓤 H 𝓜 𝓖 𝓡 =
     entered 𝓤 H (tripleOf 𝓤 H (𝓖 .A) read-sum.signature (read-sum.spec 𝓤 H (𝓖 .A) (𝓜 .mem) (𝓡 .run)))
-    (tables 𝓤 H 𝓜 𝓡 code.env .C) (tables 𝓤 H 𝓜 𝓡 code.env .Λ) #cursor·read-sum code.function (code.unfolded 𝓤 H 𝓜 𝓡)
+    (tables 𝓤 H 𝓜 𝓡 code.env .C) (tables 𝓤 H 𝓜 𝓡 code.env .Λ) #formula_cursor·read-sum code.function (code.unfolded 𝓤 H 𝓜 𝓡)
     (read-sum-meets 𝓤 H (𝓖 .A) (givenOf 𝓤 H 𝓜 𝓖) (𝓜 .mem) (𝓡 .run) (tablesOf 𝓤 H 𝓜 (tables 𝓤 H 𝓜 𝓡 code.env))
-    (cited 𝓤 H (SumFrom 𝓤 H (𝓖 .A) (𝓜 .mem) (𝓡 .run)) 𝓜 𝓡 code.env #cursor·sum-from sum-from-def.routine code.calls-cursor·sum-from (sum-from-thm.met 𝓤 H 𝓜 𝓖 𝓡)))
+    (cited 𝓤 H (SumFrom 𝓤 H (𝓖 .A) (𝓜 .mem) (𝓡 .run)) 𝓜 𝓡 code.env #formula_cursor·sum-from sum-from-def.routine code.calls-formula-cursor·sum-from (sum-from-thm.met 𝓤 H 𝓜 𝓖 𝓡)))

@@ -48,21 +48,21 @@ use Rattle.formula_cursor.proofs.Cursor as T
 use Rattle.formula_cursor.proofs.Cursor.Laws as T′
 use Rattle.formula_cursor.proofs.at_start as start
 use Rattle.formula_cursor.proofs.at_start.Symbol as start-def
-use Rattle.formula_cursor.proofs.at_start.Symbol.{name as #cursor·at-start}
+use Rattle.formula_cursor.proofs.at_start.Symbol.{name as #formula_cursor·at-start}
 use Rattle.formula_cursor.proofs.at_start.Met as start-thm
 use Rattle.formula_cursor.proofs.read_sum as read-sum
 use Rattle.formula_cursor.proofs.read_sum.Symbol as read-sum-def
-use Rattle.formula_cursor.proofs.read_sum.Symbol.{name as #cursor·read-sum}
+use Rattle.formula_cursor.proofs.read_sum.Symbol.{name as #formula_cursor·read-sum}
 use Rattle.formula_cursor.proofs.read_sum.Met as read-sum-thm
 use Rattle.formula_cursor.proofs.past as past
 use Rattle.formula_cursor.proofs.past.Symbol as past-def
-use Rattle.formula_cursor.proofs.past.Symbol.{name as #cursor·past}
+use Rattle.formula_cursor.proofs.past.Symbol.{name as #formula_cursor·past}
 use Rattle.formula_cursor.proofs.past.Met as past-thm
 use Rattle.formula_cursor.proofs.if_at_end as at-end
 use Rattle.formula_cursor.proofs.if_at_end.Symbol as at-end-def
-use Rattle.formula_cursor.proofs.if_at_end.Symbol.{name as #cursor·if-at-end}
+use Rattle.formula_cursor.proofs.if_at_end.Symbol.{name as #formula_cursor·if-at-end}
 use Rattle.formula_cursor.proofs.if_at_end.Met as at-end-thm
-use Rattle.formula_cursor.proofs.read_whole.Key.{name as #cursor·read-whole}
+use Rattle.formula_cursor.proofs.read_whole.Key.{name as #formula_cursor·read-whole}
 use Rattle.formula_cursor.proofs.read_whole as read-whole
 use Rattle.formula_cursor.proofs.read_whole.Statement as stated
 use Rattle.formula_cursor.proofs.read_whole.Code as code
@@ -177,8 +177,8 @@ module _ {M : Type 1} (𝓤 : URA M) (H : Heap 𝓤) (A : Atoms 𝓤) (W : Given
       suffices ! _ (ends-at 𝓤 H A read-whole.ended stayed (read-whole.clauses 𝓤 H A mem run) W (((κ, tt), (q, tt), tt, (s, tt), (v ∷ [], tt)), tt) w r (tt, tt) (tt, tt)) $ says ! e $
       move ! (1 ∷ []) $ frame ! $ nothing ! $ move ! (2 ∷ 0 ∷ []) $ fjoin ! $ frame ! $ done !
 
-  module _ (C : Calls 𝓤 H) (Λ : Loops 𝓤 H) (fm : FmC 𝓤 H (W .laws) C) (known-start : Triple 𝓤 (C #cursor·at-start) (AtStart 𝓤 H A mem run)) (known-read : Triple 𝓤 (C #cursor·read-sum) (ReadSum 𝓤 H A mem run))
-      (known-past : Triple 𝓤 (C #cursor·past) (Past 𝓤 H A mem run)) (known-end : Triple 𝓤 (C #cursor·if-at-end) (AtEnd 𝓤 H A mem run)) where
+  module _ (C : Calls 𝓤 H) (Λ : Loops 𝓤 H) (fm : FmC 𝓤 H (W .laws) C) (known-start : Triple 𝓤 (C #formula_cursor·at-start) (AtStart 𝓤 H A mem run)) (known-read : Triple 𝓤 (C #formula_cursor·read-sum) (ReadSum 𝓤 H A mem run))
+      (known-past : Triple 𝓤 (C #formula_cursor·past) (Past 𝓤 H A mem run)) (known-end : Triple 𝓤 (C #formula_cursor·if-at-end) (AtEnd 𝓤 H A mem run)) where
     walk : Is (ShrSlice (named 0) κ u8) s (v ∷ []) → ent 𝓤 (onEntry 𝓤 H A read-whole.signature (κ, tt) (q, tt) (s, tt) (v ∷ [], tt)) (WpFn 𝓤 H C Λ code.function (v ∷ []) Post)
     walk p =
         qed W (raw (onEntry 𝓤 H A read-whole.signature (κ, tt) (q, tt) (s, tt) (v ∷ [], tt)) ∷ []) ∵ enter ! C Λ code.function (v ∷ []) _ $
@@ -222,15 +222,15 @@ module _ {M : Type 1} (𝓤 : URA M) (H : Heap 𝓤) (A : Atoms 𝓤) (W : Given
         by ! (exits r w′ (by-cursor (ap now (e₁ .0)) (e₁ .1) e₂ (ap now (e₃ .0)) (e₃ .1) e₄)))))))))))))))))))))))))
 
 module _ {M : Type 1} (𝓤 : URA M) (H : Heap 𝓤) (A : Atoms 𝓤) (W : Given 𝓤 H A) (mem : Memory → SProp 𝓤) (run : Routine → Fun 𝓤) where
-  read-whole-walks : (C : Calls 𝓤 H) (Λ : Loops 𝓤 H) → FmC 𝓤 H (W .laws) C → Triple 𝓤 (C #cursor·at-start) (AtStart 𝓤 H A mem run) → Triple 𝓤 (C #cursor·read-sum) (ReadSum 𝓤 H A mem run)
-      → Triple 𝓤 (C #cursor·past) (Past 𝓤 H A mem run) → Triple 𝓤 (C #cursor·if-at-end) (AtEnd 𝓤 H A mem run)
+  read-whole-walks : (C : Calls 𝓤 H) (Λ : Loops 𝓤 H) → FmC 𝓤 H (W .laws) C → Triple 𝓤 (C #formula_cursor·at-start) (AtStart 𝓤 H A mem run) → Triple 𝓤 (C #formula_cursor·read-sum) (ReadSum 𝓤 H A mem run)
+      → Triple 𝓤 (C #formula_cursor·past) (Past 𝓤 H A mem run) → Triple 𝓤 (C #formula_cursor·if-at-end) (AtEnd 𝓤 H A mem run)
       → Walks 𝓤 H A read-whole.ended stayed (WpFn 𝓤 H C Λ code.function) (read-whole.clauses 𝓤 H A mem run)
   read-whole-walks C Λ fm known-start known-read known-past known-end = walked 𝓤 H A read-whole.ended stayed (read-whole.clauses 𝓤 H A mem run) (WpFn 𝓤 H C Λ code.function) (λ κs. (slice-vals, tt)) (λ κs. (shr-slice-tells (named 0) (κs .0) u8, tt))
       (λ κs qs bounds a g are. via 𝓤 _ (fst∗ 𝓤 _ (emp 𝓤)) (walk 𝓤 H A W mem run (κs .0) (qs .0) (a .0) C Λ fm known-start known-read known-past known-end (are .0)))
 
 read-whole-meets : {M : Type 1} (𝓤 : URA M) (H : Heap 𝓤) (A : Atoms 𝓤) (W : Given 𝓤 H A) (mem : Memory → SProp 𝓤) (run : Routine → Fun 𝓤) (𝓣 : Tables 𝓤 H)
-    → Triple 𝓤 (𝓣 .C #cursor·at-start) (AtStart 𝓤 H A mem run) → Triple 𝓤 (𝓣 .C #cursor·read-sum) (ReadSum 𝓤 H A mem run)
-    → Triple 𝓤 (𝓣 .C #cursor·past) (Past 𝓤 H A mem run) → Triple 𝓤 (𝓣 .C #cursor·if-at-end) (AtEnd 𝓤 H A mem run)
+    → Triple 𝓤 (𝓣 .C #formula_cursor·at-start) (AtStart 𝓤 H A mem run) → Triple 𝓤 (𝓣 .C #formula_cursor·read-sum) (ReadSum 𝓤 H A mem run)
+    → Triple 𝓤 (𝓣 .C #formula_cursor·past) (Past 𝓤 H A mem run) → Triple 𝓤 (𝓣 .C #formula_cursor·if-at-end) (AtEnd 𝓤 H A mem run)
     → Meets 𝓤 H A read-whole.signature (WpFn 𝓤 H (𝓣 .C) (𝓣 .Λ) code.function) (read-whole.spec 𝓤 H A mem run)
 read-whole-meets 𝓤 H A W mem run 𝓣 known-start known-read known-past known-end = walk-meets 𝓤 H A read-whole.ended stayed W (goes-none-slice 𝓤 H A W 1 (0 ∷ []) tt (plain (λ _. u8)) yes, tt) (read-whole.clauses 𝓤 H A mem run) (WpFn 𝓤 H (𝓣 .C) (𝓣 .Λ) code.function) (WpFn-mono 𝓤 H (W .laws) 𝓣 code.function)
     (read-whole-walks 𝓤 H A W mem run (𝓣 .C) (𝓣 .Λ) (fmOf 𝓤 H (W .laws) 𝓣) known-start known-read known-past known-end)
@@ -239,9 +239,9 @@ pub read-whole-spec : {M : Type 1} → stated.statement M
 unfolding code.routine tablesOf
 read-whole-spec 𝓤 H 𝓜 𝓖 𝓡 =
     entered 𝓤 H (tripleOf 𝓤 H (𝓖 .A) read-whole.signature (read-whole.spec 𝓤 H (𝓖 .A) (𝓜 .mem) (𝓡 .run)))
-    (tables 𝓤 H 𝓜 𝓡 code.env .C) (tables 𝓤 H 𝓜 𝓡 code.env .Λ) #cursor·read-whole code.function (code.unfolded 𝓤 H 𝓜 𝓡)
+    (tables 𝓤 H 𝓜 𝓡 code.env .C) (tables 𝓤 H 𝓜 𝓡 code.env .Λ) #formula_cursor·read-whole code.function (code.unfolded 𝓤 H 𝓜 𝓡)
     (read-whole-meets 𝓤 H (𝓖 .A) (givenOf 𝓤 H 𝓜 𝓖) (𝓜 .mem) (𝓡 .run) (tablesOf 𝓤 H 𝓜 (tables 𝓤 H 𝓜 𝓡 code.env))
-    (cited 𝓤 H (AtStart 𝓤 H (𝓖 .A) (𝓜 .mem) (𝓡 .run)) 𝓜 𝓡 code.env #cursor·at-start start-def.routine code.calls-cursor·at-start (start-thm.met 𝓤 H 𝓜 𝓖 𝓡))
-    (cited 𝓤 H (ReadSum 𝓤 H (𝓖 .A) (𝓜 .mem) (𝓡 .run)) 𝓜 𝓡 code.env #cursor·read-sum read-sum-def.routine code.calls-cursor·read-sum (read-sum-thm.met 𝓤 H 𝓜 𝓖 𝓡))
-    (cited 𝓤 H (Past 𝓤 H (𝓖 .A) (𝓜 .mem) (𝓡 .run)) 𝓜 𝓡 code.env #cursor·past past-def.routine code.calls-cursor·past (past-thm.met 𝓤 H 𝓜 𝓖 𝓡))
-    (cited 𝓤 H (AtEnd 𝓤 H (𝓖 .A) (𝓜 .mem) (𝓡 .run)) 𝓜 𝓡 code.env #cursor·if-at-end at-end-def.routine code.calls-cursor·if-at-end (at-end-thm.met 𝓤 H 𝓜 𝓖 𝓡)))
+    (cited 𝓤 H (AtStart 𝓤 H (𝓖 .A) (𝓜 .mem) (𝓡 .run)) 𝓜 𝓡 code.env #formula_cursor·at-start start-def.routine code.calls-formula-cursor·at-start (start-thm.met 𝓤 H 𝓜 𝓖 𝓡))
+    (cited 𝓤 H (ReadSum 𝓤 H (𝓖 .A) (𝓜 .mem) (𝓡 .run)) 𝓜 𝓡 code.env #formula_cursor·read-sum read-sum-def.routine code.calls-formula-cursor·read-sum (read-sum-thm.met 𝓤 H 𝓜 𝓖 𝓡))
+    (cited 𝓤 H (Past 𝓤 H (𝓖 .A) (𝓜 .mem) (𝓡 .run)) 𝓜 𝓡 code.env #formula_cursor·past past-def.routine code.calls-formula-cursor·past (past-thm.met 𝓤 H 𝓜 𝓖 𝓡))
+    (cited 𝓤 H (AtEnd 𝓤 H (𝓖 .A) (𝓜 .mem) (𝓡 .run)) 𝓜 𝓡 code.env #formula_cursor·if-at-end at-end-def.routine code.calls-formula-cursor·if-at-end (at-end-thm.met 𝓤 H 𝓜 𝓖 𝓡)))
