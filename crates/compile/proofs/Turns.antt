@@ -26,11 +26,6 @@ pub record Turn (t : Tree) (start step : ℕ) (p₀ p : List ℕ) (end n : ℕ) 
 pub counted : (p : List ℕ) (t : Tree) → Written p t → getD p treeStart 0 ≡ nodes t
 counted p t e = sym (getD-drop treeStart p 0 0) ∙ sym (getD-take treeLength (drop treeStart p) 0 0 (omega arith)) ∙ ap (λ l. getD l 0 0) e
 
-drop-take : (m n : ℕ) (l : List ℕ) → drop m (take (m + n) l) ≡ take n (drop m l)
-drop-take zero n l = ap (λ k. take k l) (zero-add n)
-drop-take (suc m) n [] = ap (λ k. drop (suc m) (take k [])) (suc-add m n) ∙ sym (take-nil n)
-drop-take (suc m) n (a ∷ l) = ap (λ k. drop (suc m) (take k (a ∷ l))) (suc-add m n) ∙ drop-take m n l
-
 module _ (start step : ℕ) (t : Tree) (comp : Compilable start step t) where
   node-count : length (nodeWords t) ≤ nodesLength
   node-count = omega (arith, nodes-words t, comp .few)

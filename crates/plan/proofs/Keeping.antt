@@ -19,7 +19,7 @@ use Rattle.plan.specs.Row.{between, allZero, keepsTable, oddConstant, so
 use Rattle.plan.specs.Plan.{rowCount, row, rowsFrom, rows, soundFrom, sound, costOf, cost, refusal}
 use Rattle.plan.specs.Points.{withChain, chainOf, shiftedRow, shiftedFrom, shiftedPlan}
 use Rattle.plan.specs.Filling.{planAfter}
-use Rattle.plan.proofs.RowLaws.{part, partPut, slice-part, part-put, rowPart, row-part, row-at}
+use Rattle.plan.proofs.RowLaws.{part, partPut, slice-part, part-put, row-part, row-at}
 
 -- ---- two lists as long as the parts of a third: put together they are cut at the same place
 pub take-front : (n : ℕ) (l e g : List ℕ) → length e ≡ length (take n l) → length g ≡ length (drop n l) → take n (e ++ g) ≡ e
@@ -52,12 +52,12 @@ cut (suc n) (suc m) (a ∷ l) h = cut n m l (omega arith)
 chain-end : (row : Row) → elementsStart + (1 + wordA row) - elementsStart ≡ 1 + wordA row
 chain-end row = omega arith
 
-pub chain-part : (row : Row) → wordA row < elementCount → part elementsStart (elementsStart + (1 + wordA row)) row ≡ chainOf row
+chain-part : (row : Row) → wordA row < elementCount → part elementsStart (elementsStart + (1 + wordA row)) row ≡ chainOf row
 chain-part row h =
     ap (λ n. take n (drop elementsStart row)) (chain-end row)
     ∙ sym (take-take (1 + wordA row) elementCount (drop elementsStart row) (omega arith))
 
-pub chain-put : (row : Row) (f : List ℕ) → wordA row < elementCount
+chain-put : (row : Row) (f : List ℕ) → wordA row < elementCount
     → partPut elementsStart (elementsStart + (1 + wordA row)) row f ≡ withChain row f
 chain-put row f h =
     ap (λ n. take elementsStart row ++ (f ++ drop n (drop elementsStart row))) (chain-end row)
@@ -130,6 +130,20 @@ shifted-sum w row e = rw e
 pub shifted-product : (w : ℕ) (row : Row) → kind row ≡ 2 → shiftedRow w row ≡ withChain row (words w (productShift (chainOf row)))
 unfolding shiftedRow
 shifted-product w row e = rw e
+
+-- The chain as the code shifts it, lent as a part of the row.
+abbrev pub chainEnd : Row → ℕ
+chainEnd row = elementsStart + (1 + wordA row)
+
+pub sum-put : (w : ℕ) (row : Row) {f : List ℕ} → kind row ≡ 1 → wordA row < elementCount
+    → f ≡ words w (sumShift (part elementsStart (chainEnd row) row)) → partPut elementsStart (chainEnd row) row f ≡ shiftedRow w row
+sum-put w row {f} k h e =
+    chain-put row f h ∙ ap (withChain row) (e ∙ ap (λ g. words w (sumShift g)) (chain-part row h)) ∙ sym (shifted-sum w row k)
+
+pub product-put : (w : ℕ) (row : Row) {f : List ℕ} → kind row ≡ 2 → wordA row < elementCount
+    → f ≡ words w (productShift (part elementsStart (chainEnd row) row)) → partPut elementsStart (chainEnd row) row f ≡ shiftedRow w row
+product-put w row {f} k h e =
+    chain-put row f h ∙ ap (withChain row) (e ∙ ap (λ g. words w (productShift g)) (chain-part row h)) ∙ sym (shifted-product w row k)
 
 pub shifted-other : (w : ℕ) (row : Row) → isChain (kind row) ≡ false → shiftedRow w row ≡ row
 unfolding shiftedRow
@@ -337,8 +351,9 @@ row-to w r p =
     ∙ row-waits w r (drop 1 p)
     ∙ sym (row-at p r)
 
-pub waiting : (w r : ℕ) (p : List ℕ) {q : List ℕ} → q ≡ shiftedTo w r p → rowPart p r ≡ rowPart q r
-waiting w r p {q} e = sym (row-part p r) ∙ sym (row-to w r p) ∙ ap (λ l. row l r) (sym e) ∙ row-part q r
+pub waiting : (w r : ℕ) (p : List ℕ) {q : List ℕ} {at : ℕ} → q ≡ shiftedTo w r p → at ≡ rowStart r → part at (at + rowLength) q ≡ row p r
+waiting w r p {q} e place =
+    ap (λ k. part k (k + rowLength) q) place ∙ sym (row-part q r) ∙ ap (λ l. row l r) e ∙ row-to w r p
 
 step-to : (w r : ℕ) (p : List ℕ)
     → shiftedTo w (r + 1) p
@@ -367,12 +382,13 @@ step-to w r p =
         ∙ sym (drop-drop (rowLength * r + rowLength) 1 (shiftedTo w r p))
         ∙ ap (λ f. drop (rowLength * r + rowLength) f) (rows-to w r p)
 
-pub step-put : (w r : ℕ) (p : List ℕ) {q new : List ℕ} → q ≡ shiftedTo w r p → new ≡ shiftedRow w (rowPart q r)
-    → partPut (rowStart r) (rowStart r + rowLength) q new ≡ shiftedTo w (r + 1) p
-step-put w r p {q} {new} e n =
-    part-put (rowStart r) (rowStart r + rowLength) q new (omega arith)
-    ∙ ap (λ x. take (rowStart r) q ++ x ++ drop (rowStart r + rowLength) q) (n ∙ ap (shiftedRow w) (sym (row-part q r)))
-    ∙ ap (λ l. take (rowStart r) l ++ shiftedRow w (row l r) ++ drop (rowStart r + rowLength) l) e
+pub step-put : (w r : ℕ) (p : List ℕ) {q new : List ℕ} {at : ℕ} → q ≡ shiftedTo w r p → at ≡ rowStart r
+    → new ≡ shiftedRow w (part at (at + rowLength) q) → partPut at (at + rowLength) q new ≡ shiftedTo w (r + 1) p
+step-put w r p {q} {new} e place n =
+    ap (λ k. partPut k (k + rowLength) q new) place
+    ∙ part-put (rowStart r) (rowStart r + rowLength) q new (omega arith)
+    ∙ ap (λ x. take (rowStart r) q ++ x ++ drop (rowStart r + rowLength) q) (n ∙ ap (shiftedRow w) (waiting w r p e place ∙ sym (row-to w r p)))
+    ∙ ap (λ l. take (rowStart r) l ++ shiftedRow w (row (shiftedTo w r p) r) ++ drop (rowStart r + rowLength) l) e
     ∙ ap (λ k. take (rowStart r) (shiftedTo w r p) ++ shiftedRow w (row (shiftedTo w r p) r) ++ drop k (shiftedTo w r p)) end
     ∙ sym (step-to w r p)
   where

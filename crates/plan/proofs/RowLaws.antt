@@ -7,8 +7,8 @@ use native.Mathlib.Nat.{zero-add, add-zero, suc-add, sub-zero, zero-sub, suc-sub
 use native.Mathlib.Omega.{arith}
 use lib.ListN.{length, getD, take, drop, length-drop}
 use lib.Seq.{slice, take-all, drop-drop, length-slice, take-nil, getD-drop, getD-take}
-use Rattle.plan.specs.Measures.{planLength, rowLength, mostRows, rowStart}
-use Rattle.plan.specs.Row.{Row, rowCost, soundRow}
+use Rattle.plan.specs.Measures.{elementsStart, elementCount, planLength, rowLength, mostRows, rowStart}
+use Rattle.plan.specs.Row.{Row, elements, rowCost, soundRow}
 use Rattle.plan.specs.Plan.{row, rowsFrom, firstRows, soundFrom, costOf}
 use Rattle.plan.specs.Points.{rowValue, valuesFrom}
 
@@ -51,6 +51,18 @@ row-at p r =
 
 pub length-row : (p : List ℕ) (r : ℕ) → r < mostRows → planLength ≤ length p → length (row p r) ≡ rowLength
 length-row p r h long = length-slice (rowStart r) (rowStart r + rowLength) p (omega arith) ∙ omega arith
+
+-- The elements of a row from the n-th on, as the code lends them.
+pub drop-take : (m n : ℕ) (l : List ℕ) → drop m (take (m + n) l) ≡ take n (drop m l)
+drop-take zero n l = ap (λ k. take k l) (zero-add n)
+drop-take (suc m) n [] = ap (λ k. drop (suc m) (take k [])) (suc-add m n) ∙ sym (take-nil n)
+drop-take (suc m) n (a ∷ l) = ap (λ k. drop (suc m) (take k (a ∷ l))) (suc-add m n) ∙ drop-take m n l
+
+pub elements-past : (row : Row) (n : ℕ) → part (elementsStart + n) (elementsStart + elementCount) row ≡ drop n (elements row)
+elements-past row n =
+    sym (slice-part (elementsStart + n) (elementsStart + elementCount) row)
+    ∙ sym (drop-drop n elementsStart (take (elementsStart + elementCount) row))
+    ∙ ap (λ f. drop n f) (drop-take elementsStart elementCount row)
 
 -- Word j of row r in the plan.
 pub word-at : (p : List ℕ) (r j : ℕ) → j < rowLength → getD (row p r) j 0 ≡ getD p (rowStart r + j) 0
@@ -97,9 +109,9 @@ unfolding valuesFrom
 values-append w earlier [] g = refl
 values-append w earlier (row ∷ f) g = values-append w (earlier ++ rowValue w earlier row ∷ []) f g
 
-pub cost-next : (r : ℕ) (p : List ℕ) → costOf (firstRows r p) + rowCost (rowPart p r) ≡ costOf (firstRows (r + 1) p)
+pub cost-next : (r : ℕ) (p : List ℕ) → costOf (firstRows r p) + rowCost (row p r) ≡ costOf (firstRows (r + 1) p)
 unfolding costOf
 cost-next r p =
-    ap (λ n. costOf (firstRows r p) + n) (ap (λ x. rowCost x) (sym (row-part p r)) ∙ sym (add-zero (rowCost (row p r))))
+    ap (λ n. costOf (firstRows r p) + n) (sym (add-zero (rowCost (row p r))))
     ∙ sym (cost-append (firstRows r p) (row p r ∷ []))
     ∙ ap costOf (sym (rows-next r p))

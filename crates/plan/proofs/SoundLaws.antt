@@ -9,7 +9,7 @@ use lib.Dec.{leb, ltb, eqb}
 use lib.ListN.{length, getD, drop}
 use lib.Seq.{drop-drop, getD-at}
 use borrow.Author.Tests.{ltb-true, leb-true, eqb-true, eqb-false, eq-eqb, ne-eqb}
-use Rattle.plan.specs.Measures.{planLength, rowLength, mostRows, rowStart}
+use Rattle.plan.specs.Measures.{elementCount, planLength, rowLength, mostRows, rowStart}
 use Rattle.plan.specs.declared.Kind.{Kind}
 use Rattle.plan.specs.Row.{Row, kind, wordA, wordB, costing, kindTable, kindFacts, fixedCost, operandCount, isChain, rowCost, between, soundA, soundB, elementsUsed, allZero, keepsTable, oddConstant, soundBase, soundRow}
 use Rattle.plan.specs.Plan.{rowCount, row, rowsFrom, firstRows, rows, soundFrom, sound}
@@ -178,24 +178,29 @@ module _ (p : List ℕ) (r : ℕ) where
   pub table-broken : keepsTable r (row p r) ≡ false → soundRow (firstRows r p) (row p r) ≡ false
   table-broken e = row-sound ∙ ap (λ b. b && soundBase (firstRows r p) (row p r)) e
 
-  module _ (kept : keepsTable r (row p r) ≡ true) where
-    judged : soundRow (firstRows r p) (row p r) ≡ soundBase (firstRows r p) (row p r)
-    judged = row-sound ∙ ap (λ b. b && soundBase (firstRows r p) (row p r)) kept
+  -- The row as a part x of the plan.
+  module _ {x : Row} (same : x ≡ row p r) (kept : keepsTable r x ≡ true) where
+    kept-there : keepsTable r (row p r) ≡ true
+    kept-there = ap (λ y. keepsTable r y) (sym same) ∙ kept
 
-    pub no-raise : (getD p (rowStart r) 0 ≡ 8 → ⊥) → soundRow (firstRows r p) (row p r) ≡ true
-    no-raise other =
-        judged
-        ∙ ap (λ b. cond b (oddConstant (getD (firstRows r p) (wordA (row p r)) [])) true) (ne-eqb (kind (row p r)) 8 (λ e. other (sym (kind-at p r) ∙ e)))
+    judged : soundRow (firstRows r p) (row p r) ≡ soundBase (firstRows r p) x
+    judged =
+        row-sound
+        ∙ ap (λ b. b && soundBase (firstRows r p) (row p r)) kept-there
+        ∙ ap (λ y. soundBase (firstRows r p) y) (sym same)
 
-    module _ (raise : getD p (rowStart r) 0 ≡ 8) where
-      pub base-earlier : getD p (rowStart r + 1) 0 < r
-      base-earlier = subst (λ a. a < r) (word-at p r 1 (omega arith)) (kept-base r (row p r) kept (kind-at p r ∙ raise))
+    pub no-raise : (kind x ≡ 8 → ⊥) → soundRow (firstRows r p) (row p r) ≡ true
+    no-raise other = judged ∙ ap (λ b. cond b (oddConstant (getD (firstRows r p) (wordA x) [])) true) (ne-eqb (kind x) 8 other)
 
-      pub raise-sound : soundRow (firstRows r p) (row p r) ≡ oddConstant (rowPart p (getD p (rowStart r + 1) 0))
+    module _ (raise : kind x ≡ 8) where
+      pub base-earlier : wordA x < r
+      base-earlier = kept-base r x kept raise
+
+      pub raise-sound : soundRow (firstRows r p) (row p r) ≡ oddConstant (row p (wordA x))
       raise-sound =
           judged
-          ∙ ap₂ (λ b a. cond b (oddConstant (getD (firstRows r p) a [])) true) (eq-eqb (kind (row p r)) 8 (kind-at p r ∙ raise)) (word-at p r 1 (omega arith))
-          ∙ ap (λ x. oddConstant x) (earlier-row p r (getD p (rowStart r + 1) 0) base-earlier ∙ row-part p (getD p (rowStart r + 1) 0))
+          ∙ ap (λ b. cond b (oddConstant (getD (firstRows r p) (wordA x) [])) true) (eq-eqb (kind x) 8 raise)
+          ∙ ap (λ y. oddConstant y) (earlier-row p r (wordA x) base-earlier)
 
   pub sound-next : soundFrom [] (firstRows r p) ≡ true → soundRow (firstRows r p) (row p r) ≡ true → soundFrom [] (firstRows (r + 1) p) ≡ true
   unfolding soundFrom
@@ -210,31 +215,29 @@ module _ (p : List ℕ) (r : ℕ) where
       ∙ ap (λ b. soundFrom [] (firstRows r p) && (b && soundFrom (firstRows r p ++ row p r ∷ []) (rowsFrom (n - suc r) (drop (rowLength * suc r) (drop 1 p))))) here
       ∙ and-false (soundFrom [] (firstRows r p))
 
--- ---- row r of a sound plan, as the code lends it
-module _ (p : List ℕ) (r : ℕ) (long : planLength ≤ length p) (e : sound p ≡ true) (h : r < rowCount p) where
-  few : r < mostRows
-  few = omega (arith, sound-count p e)
+-- ---- row r of a sound plan, as a part of it
+pub record RowFacts (x : Row) : Type 0 where
+  pub words : length x ≡ rowLength
+  pub known : kind x < 9
+  pub exponent : kind x ≡ 7 → 1 ≤ wordB x
+  pub chain : isChain (kind x) ≡ true → wordA x < elementCount
+  pub a-few : wordA x < mostRows
+  pub b-few : wordB x < mostRows
+  pub cost : rowCost x ≤ 128
 
-  keeps : keepsTable r (row p r) ≡ true
-  keeps = sound-keeps p r e h
+pub row-facts : (p : List ℕ) (r : ℕ) → planLength ≤ length p → sound p ≡ true → r < rowCount p → {x : Row} → x ≡ row p r → RowFacts x
+row-facts p r long e h same = subst RowFacts (sym same) record {
+  words = length-row p r few long;
+  known = kept-kind r (row p r) keeps;
+  exponent = λ k. omega (arith, kept-exponent r (row p r) keeps k);
+  chain = λ k. omega (arith, kept-length r (row p r) keeps k);
+  a-few = kept-a-small r (row p r) keeps (omega (arith, few));
+  b-few = kept-b-small r (row p r) keeps (omega (arith, few));
+  cost = row-cost-most r (row p r) (omega (arith, few)) keeps;
+}
+  where
+    few : r < mostRows
+    few = omega (arith, sound-count p e)
 
-  pub part-length : length (rowPart p r) ≡ rowLength
-  part-length = subst (λ x. length x ≡ rowLength) (row-part p r) (length-row p r few long)
-
-  pub part-kind : kind (rowPart p r) < 9
-  part-kind = subst (λ x. kind x < 9) (row-part p r) (kept-kind r (row p r) keeps)
-
-  pub part-exponent : kind (rowPart p r) ≡ 7 → 1 ≤ wordB (rowPart p r)
-  part-exponent = subst (λ x. kind x ≡ 7 → 1 ≤ wordB x) (row-part p r) (λ k. omega (arith, kept-exponent r (row p r) keeps k))
-
-  pub part-chain : isChain (kind (rowPart p r)) ≡ true → wordA (rowPart p r) ≤ 16
-  part-chain = subst (λ x. isChain (kind x) ≡ true → wordA x ≤ 16) (row-part p r) (kept-length r (row p r) keeps)
-
-  pub part-a : wordA (rowPart p r) < mostRows
-  part-a = subst (λ x. wordA x < mostRows) (row-part p r) (kept-a-small r (row p r) keeps (omega (arith, few)))
-
-  pub part-b : wordB (rowPart p r) < mostRows
-  part-b = subst (λ x. wordB x < mostRows) (row-part p r) (kept-b-small r (row p r) keeps (omega (arith, few)))
-
-  pub part-cost : rowCost (rowPart p r) ≤ 128
-  part-cost = subst (λ x. rowCost x ≤ 128) (row-part p r) (row-cost-most r (row p r) (omega (arith, few)) keeps)
+    keeps : keepsTable r (row p r) ≡ true
+    keeps = sound-keeps p r e h

@@ -1,6 +1,8 @@
 // The cost of a row and of a plan that is sound.
 // What a point costs beside, and how many the budget pays for, is in the crate's root.
-use plan_sound::kinds;
+use plan_rows::kinds;
+use plan_rows::kinds::LITERAL_POWER;
+use plan_rows::row;
 ghost use mathlib.Core.Path.{_≡_};
 ghost use mathlib.Core.Bool.{true};
 ghost use Prim.Native.Nat.{_≤_, _<_};
@@ -20,7 +22,7 @@ fn row_cost(row: &[u64]) -> u64
     if kinds::is_chain(kind) {
         return row[1];
     }
-    if kind == 7 {
+    if kind == LITERAL_POWER {
         return row[2] - 1;
     }
     let facts = kinds::facts(kind);
@@ -37,8 +39,7 @@ pub fn plan_cost(plan: &[u64]) -> u64
     let mut total = 0;
     let mut r = 0;
     while r < count {
-        let at = 1 + 20 * r;
-        total += row_cost(&plan[at..at + 20]);
+        total += row_cost(row(plan, r));
         r += 1;
     }
     total

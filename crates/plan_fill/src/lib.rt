@@ -5,6 +5,7 @@ mod points;
 
 use plan::CostAnswer;
 use plan::FillAnswer;
+use plan::MOST_ROWS;
 use plan_sound::refusal;
 ghost use mathlib.Core.Path.{_≡_};
 ghost use mathlib.Core.Bool.{true};
@@ -54,7 +55,7 @@ fn fill_table(plan: &mut [u64], table: &mut [u64])
     ensures { λ _. ⌜ now (table .exit) ≡ pointValues 64 (length (now (table .entry))) (now (plan .entry)) ⌝ }
     ensures { λ _. ⌜ now (plan .exit) ≡ planAfter 64 (length (now (table .entry))) (now (plan .entry)) ⌝ }
 {
-    let mut values = [0; 128];
+    let mut values = [0; MOST_ROWS];
     fill_points(plan, table, &mut values);
 }
 

@@ -2,11 +2,16 @@
 // How many points there are is for `plan_fill`.
 use chain_arrays::Operation;
 use chain_arrays::shift_part;
+use plan::ELEMENTS_START;
+use plan::ROW_WORDS;
+use plan_rows::kinds::PRODUCT_CHAIN;
+use plan_rows::kinds::SUM_CHAIN;
+use plan_rows::row;
 ghost use mathlib.Core.Path.{_≡_};
 ghost use mathlib.Core.Bool.{true};
 ghost use Prim.Native.Nat.{_≤_, _<_};
 ghost use lib.ListN.{length};
-ghost use Rattle.plan.specs.Measures.{planLength, rowLength, mostRows};
+ghost use Rattle.plan.specs.Measures.{planLength, rowLength, mostRows, elementCount};
 ghost use Rattle.plan.specs.Row.{kind, wordA, wordB, isChain};
 ghost use Rattle.plan.specs.Plan.{sound};
 ghost use Rattle.plan.specs.Points.{rowValue, rootValue, shiftedRow, shiftedPlan};
@@ -28,7 +33,7 @@ fn row_value(row: &[u64], values: &[u64]) -> u64
         6 => std::num::wrapping_sub_u64(0, left),
         7 => word::power(left, row[2]),
         8 => word::power(left, right),
-        _ => row[3],
+        _ => row[ELEMENTS_START],
     }
 }
 
@@ -42,8 +47,7 @@ pub fn root_value(plan: &[u64], values: &mut [u64]) -> u64
     let count = plan[0] as usize;
     let mut r = 0;
     while r < count {
-        let at = 1 + 20 * r;
-        values[r] = row_value(&plan[at..at + 20], values);
+        values[r] = row_value(row(plan, r), values);
         r += 1;
     }
     values[count - 1]
@@ -52,18 +56,18 @@ pub fn root_value(plan: &[u64], values: &mut [u64]) -> u64
 // One shift of a row of a sound plan.
 fn shift_row(row: &mut [u64])
     requires { ⌜ length (now row) ≡ rowLength ⌝ }
-    requires { ⌜ (isChain (kind (now row)) ≡ true → wordA (now row) ≤ 16) ⌝ }
+    requires { ⌜ wordA (now row) < mostRows ⌝ }
+    requires { ⌜ (isChain (kind (now row)) ≡ true → wordA (now row) < elementCount) ⌝ }
     ensures { λ _. ⌜ now (row .exit) ≡ shiftedRow 64 (now (row .entry)) ⌝ }
 {
     let kind = row[0];
-    if kind == 1 {
-        let end = 4 + row[1] as usize;
-        shift_part(Operation::Sum, &mut row[3..end]);
+    let end = ELEMENTS_START + (1 + row[1] as usize);
+    if kind == SUM_CHAIN {
+        shift_part(Operation::Sum, &mut row[ELEMENTS_START..end]);
         return;
     }
-    if kind == 2 {
-        let end = 4 + row[1] as usize;
-        shift_part(Operation::Product, &mut row[3..end]);
+    if kind == PRODUCT_CHAIN {
+        shift_part(Operation::Product, &mut row[ELEMENTS_START..end]);
     }
 }
 
@@ -75,8 +79,8 @@ pub fn shift_plan(plan: &mut [u64])
     let count = plan[0] as usize;
     let mut r = 0;
     while r < count {
-        let at = 1 + 20 * r;
-        shift_row(&mut plan[at..at + 20]);
+        let at = plan_rows::start(r);
+        shift_row(&mut plan[at..at + ROW_WORDS]);
         r += 1;
     }
 }

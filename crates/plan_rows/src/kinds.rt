@@ -5,44 +5,61 @@ ghost use mathlib.Core.Path.{_≡_};
 ghost use Prim.Native.Nat.{_<_};
 ghost use Rattle.plan.specs.Row.{kindFacts, isChain};
 
-// Constant, sum chain, product chain, + - *, minus, literal power, raise.
+// The kinds of 01's table.
+pub const CONSTANT: u64 = 0;
+
+pub const SUM_CHAIN: u64 = 1;
+
+pub const PRODUCT_CHAIN: u64 = 2;
+
+pub const SUM: u64 = 3;
+
+pub const DIFFERENCE: u64 = 4;
+
+pub const PRODUCT: u64 = 5;
+
+pub const MINUS: u64 = 6;
+
+pub const LITERAL_POWER: u64 = 7;
+
+pub const RAISE: u64 = 8;
+
+// A constant or a chain; + - *; minus; a literal power; a raise.
+const LEAF: Kind = Kind {
+    cost: 0,
+    operands: 0,
+};
+
+const OF_TWO: Kind = Kind {
+    cost: 1,
+    operands: 2,
+};
+
+const OF_ONE: Kind = Kind {
+    cost: 1,
+    operands: 1,
+};
+
+const BY_ITS_EXPONENT: Kind = Kind {
+    cost: 0,
+    operands: 1,
+};
+
+const RAISING: Kind = Kind {
+    cost: 128,
+    operands: 2,
+};
+
 const KINDS: [Kind; 9] = [
-    Kind {
-        cost: 0,
-        operands: 0,
-    },
-    Kind {
-        cost: 0,
-        operands: 0,
-    },
-    Kind {
-        cost: 0,
-        operands: 0,
-    },
-    Kind {
-        cost: 1,
-        operands: 2,
-    },
-    Kind {
-        cost: 1,
-        operands: 2,
-    },
-    Kind {
-        cost: 1,
-        operands: 2,
-    },
-    Kind {
-        cost: 1,
-        operands: 1,
-    },
-    Kind {
-        cost: 0,
-        operands: 1,
-    },
-    Kind {
-        cost: 128,
-        operands: 2,
-    },
+    LEAF,
+    LEAF,
+    LEAF,
+    OF_TWO,
+    OF_TWO,
+    OF_TWO,
+    OF_ONE,
+    BY_ITS_EXPONENT,
+    RAISING,
 ];
 
 pub fn facts(kind: u64) -> Kind
@@ -55,8 +72,8 @@ pub fn facts(kind: u64) -> Kind
 pub fn is_chain(kind: u64) -> bool
     ensures { λ r. ⌜ r ≡ isChain kind ⌝ }
 {
-    if kind == 1 {
+    if kind == SUM_CHAIN {
         return true;
     }
-    kind == 2
+    kind == PRODUCT_CHAIN
 }

@@ -1,15 +1,12 @@
-// A row of a lent plan as the part of it, to read and to write, and its elements as an array, for the crates above.
-// The table of row kinds is in `kinds`; what a row holds for whom is decided there.
+// Where a row of a plan stands, the row as a part of the plan, and a word of it, for the crates above.
+// The table of row kinds is in `kinds`; what is asked of a row is in `plan_sound`.
 pub mod kinds;
 
-use plan::ELEMENTS_START;
-use plan::ELEMENT_COUNT;
 use plan::ROW_WORDS;
 ghost use mathlib.Core.Path.{_≡_};
 ghost use Prim.Native.Nat.{_≤_, _<_};
-ghost use lib.ListN.{length};
-ghost use Rattle.plan.specs.Measures.{planLength, mostRows, rowStart};
-ghost use Rattle.plan.specs.Row.{elements};
+ghost use lib.ListN.{length, getD};
+ghost use Rattle.plan.specs.Measures.{planLength, rowLength, mostRows, rowStart};
 ghost use Rattle.plan.specs.Plan.{row};
 
 // The place of the first word of row r; a row's end is the start of the next one.
@@ -25,17 +22,18 @@ pub fn row<'a>(plan: &'a [u64], r: usize) -> &'a [u64]
     requires { ⌜ planLength ≤ length (now plan) ⌝ }
     requires { ⌜ r < mostRows ⌝ }
     ensures { λ s. ⌜ now s ≡ row (now (plan .entry)) r ⌝ }
+    ensures { λ s. ⌜ length (now s) ≡ rowLength ⌝ }
 {
     let at = start(r);
     &plan[at..at + ROW_WORDS]
 }
 
-// Row r, to write.
-pub fn row_mut<'a>(plan: &'a mut [u64], r: usize) -> &'a mut [u64]
+// Word i of row r.
+pub fn word(plan: &[u64], r: usize, i: usize) -> u64
     requires { ⌜ planLength ≤ length (now plan) ⌝ }
     requires { ⌜ r < mostRows ⌝ }
-    ensures { λ s. ⌜ now s ≡ row (now (plan .entry)) r ⌝ }
+    requires { ⌜ i < rowLength ⌝ }
+    ensures { λ w. ⌜ w ≡ getD (row (now (plan .entry)) r) i 0 ⌝ }
 {
-    let at = start(r);
-    &mut plan[at..at + ROW_WORDS]
+    plan[start(r) + i]
 }

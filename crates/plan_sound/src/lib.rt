@@ -1,12 +1,15 @@
 // Whether a plan is sound, row by row, for callers. Any words may be lent.
 // What is asked of one row is in `plan_sound::row_checks`; what a sound plan costs and fills is in `plan_fill`.
-pub mod kinds;
 mod row_checks;
 
 use crate::row_checks::all_zero;
 use crate::row_checks::keeps_table;
 use crate::row_checks::odd_constant;
+use plan::MOST_ROWS;
+use plan::PLAN_WORDS;
 use plan::SoundAnswer;
+use plan_rows::kinds::RAISE;
+use plan_rows::row;
 ghost use mathlib.Core.Path.{_≡_};
 ghost use mathlib.Core.List.{[]};
 ghost use Prim.Native.Nat.{_≤_, _<_};
@@ -16,23 +19,20 @@ ghost use Rattle.plan.specs.Row.{soundRow};
 ghost use Rattle.plan.specs.Plan.{row, firstRows, soundFrom, sound, refusal};
 ghost use Rattle.plan.specs.Filling.{soundAnswer};
 
-const PLAN_WORDS: usize = 2561;
-
 // Row r, given the rows before it: it keeps the table, and the base of a raise is an odd constant.
 fn row_is_sound(plan: &[u64], r: usize) -> bool
     requires { ⌜ planLength ≤ length (now plan) ⌝ }
     requires { ⌜ r < mostRows ⌝ }
     ensures { λ s. ⌜ s ≡ soundRow (firstRows r (now (plan .entry))) (row (now (plan .entry)) r) ⌝ }
 {
-    let at = 1 + 20 * r;
-    if !keeps_table(&plan[at..at + 20], r as u64) {
+    let words = row(plan, r);
+    if !keeps_table(words, r as u64) {
         return false;
     }
-    if plan[at] != 8 {
+    if words[0] != RAISE {
         return true;
     }
-    let base = 1 + 20 * plan[at + 1] as usize;
-    odd_constant(&plan[base..base + 20])
+    odd_constant(row(plan, words[1] as usize))
 }
 
 fn rows_are_sound(plan: &[u64], count: usize) -> bool
@@ -58,14 +58,14 @@ fn is_sound(plan: &[u64]) -> bool
     if count == 0 {
         return false;
     }
-    if 128 < count {
+    if MOST_ROWS < count {
         return false;
     }
     if !rows_are_sound(plan, count) {
         return false;
     }
-    let end = 1 + 20 * count;
-    all_zero(&plan[end..2561])
+    let end = plan_rows::start(count);
+    all_zero(&plan[end..PLAN_WORDS])
 }
 
 // 1 for a plan that is too short, 9 for one that is not sound, or 0.

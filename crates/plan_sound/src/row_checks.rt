@@ -1,6 +1,11 @@
 // What the table of row kinds asks of one row of a plan: its columns, its unused words, and the constant that a raise stands on.
-// The table itself is in `kinds`; a plan's rows together are checked in `plan_sound`.
-use crate::kinds;
+// The table itself is in `plan_rows::kinds`; a plan's rows together are checked in `plan_sound`.
+use plan::ELEMENT_COUNT;
+use plan::ELEMENTS_START;
+use plan_rows::kinds;
+use plan_rows::kinds::CONSTANT;
+use plan_rows::kinds::LITERAL_POWER;
+use plan_rows::kinds::RAISE;
 ghost use mathlib.Core.Path.{_≡_};
 ghost use Prim.Native.Nat.{_≤_, _<_};
 ghost use lib.ListN.{length};
@@ -43,7 +48,7 @@ fn b_is_sound(kind: u64, b: u64, r: u64) -> bool
     requires { ⌜ kind < 9 ⌝ }
     ensures { λ s. ⌜ s ≡ soundB r kind b ⌝ }
 {
-    if kind == 7 {
+    if kind == LITERAL_POWER {
         if b < 2 {
             return false;
         }
@@ -60,7 +65,7 @@ fn elements_used(kind: u64, a: u64) -> usize
     requires { ⌜ a ≤ mostRows ⌝ }
     ensures { λ s. ⌜ s ≡ elementsUsed kind a ⌝ }
 {
-    if kind == 0 {
+    if kind == CONSTANT {
         return 1;
     }
     if kinds::is_chain(kind) {
@@ -77,7 +82,7 @@ pub fn keeps_table(row: &[u64], r: u64) -> bool
 {
     let kind = row[0];
     let a = row[1];
-    if 8 < kind {
+    if RAISE < kind {
         return false;
     }
     if !a_is_sound(kind, a, r) {
@@ -86,16 +91,16 @@ pub fn keeps_table(row: &[u64], r: u64) -> bool
     if !b_is_sound(kind, row[2], r) {
         return false;
     }
-    let unused = 3 + elements_used(kind, a);
-    all_zero(&row[unused..])
+    let unused = ELEMENTS_START + elements_used(kind, a);
+    all_zero(&row[unused..ELEMENTS_START + ELEMENT_COUNT])
 }
 
 pub fn odd_constant(row: &[u64]) -> bool
     requires { ⌜ length (now row) ≡ rowLength ⌝ }
     ensures { λ s. ⌜ s ≡ oddConstant (now (row .entry)) ⌝ }
 {
-    if row[0] != 0 {
+    if row[0] != CONSTANT {
         return false;
     }
-    row[3] % 2 == 1
+    row[ELEMENTS_START] % 2 == 1
 }

@@ -1,9 +1,10 @@
 -- `row` is the part of the plan that is row r.
 use mathlib.Core.Path.{sym, ap, _∙_}
 use Prim.Native.Nat.{_+_}
+use lib.ListN.{length}
 use borrow.Author.Needs.{needs}
 use Rattle.plan.specs.Measures.{rowLength}
-use Rattle.plan.proofs.RowLaws.{part, row-part}
+use Rattle.plan.proofs.RowLaws.{part, row-part, length-row}
 use Rattle.plan_rows.proofs.row.Statement.{statement}
 use Rattle.plan_rows.proofs.row.Tie as tie
 
@@ -29,7 +30,9 @@ returns : tie.Need-returns
 returns c =
     let plan = c .before .before .before .args .plan .now in
     let r = c .before .before .before .args .r in
-    ap (λ k. part k (k + rowLength) plan) (c .before .start .ensures) ∙ sym (row-part plan r)
+    let asked = c .before .before .before .pre in
+    let same = ap (λ k. part k (k + rowLength) plan) (c .before .start .ensures) ∙ sym (row-part plan r) in
+    (same, ap length same ∙ length-row plan r (asked .1) (asked .0))
 
 pub row-spec : {M : Type 1} → statement M
 row-spec =

@@ -7,7 +7,7 @@ use borrow.Author.Needs.{needs}
 use Rattle.plan.specs.Measures.{planLength, mostRows, rowStart}
 use Rattle.plan.specs.Row.{allZero}
 use Rattle.plan.specs.Plan.{rowCount, sound}
-use Rattle.plan.proofs.RowLaws.{slice-part}
+use Rattle.plan.proofs.RowLaws.{part, slice-part}
 use Rattle.plan_sound.proofs.is_sound.Statement.{statement}
 use Rattle.plan_sound.proofs.is_sound.Tie as tie
 
@@ -34,11 +34,8 @@ returns-3 c =
     rw
     (le-leb 1 (rowCount plan) (omega arith), le-leb (rowCount plan) mostRows (omega arith), sym (c .before .rows-are-sound .ensures) ∙ not-true _ (c .if3 .taken))
 
-mul-end : tie.Need-mul-end
-mul-end c = search needs
-
-add-end : tie.Need-add-end
-add-end c = search needs
+start-requires : tie.Need-start-requires
+start-requires c κs = search needs
 
 mul-all-zero : tie.Need-mul-all-zero
 mul-all-zero c = search needs
@@ -58,13 +55,14 @@ all-zero-requires c κs = search needs
 returns-4 : tie.Need-returns-4
 unfolding sound
 returns-4 c =
-    let plan = c .before .before .before .before .before .before .before .before .args .plan .now in
+    let plan = c .before .before .before .before .before .before .before .before .before .args .plan .now in
     rw (
       le-leb 1 (rowCount plan) (omega arith),
       le-leb (rowCount plan) mostRows (omega arith),
-      sym (c .before .before .before .rows-are-sound .ensures)
-          ∙ not-false _ (c .before .before .if3 .left),
-    ) ((c .all-zero .ensures) ∙ ap allZero (sym (slice-part (rowStart (rowCount plan)) planLength plan)))
+      sym (c .before .before .before .before .rows-are-sound .ensures)
+          ∙ not-false _ (c .before .before .before .if3 .left),
+    ) ((c .all-zero .ensures) ∙ ap (λ at. allZero (part at planLength plan)) (c .before .before .start .ensures)
+    ∙ ap allZero (sym (slice-part (rowStart (rowCount plan)) planLength plan)))
 
 pub is-sound-spec : {M : Type 1} → statement M
 is-sound-spec =
@@ -75,8 +73,7 @@ is-sound-spec =
     returns-2
     rows-are-sound-requires
     returns-3
-    mul-end
-    add-end
+    start-requires
     mul-all-zero
     sub-all-zero
     part-all-zero-start

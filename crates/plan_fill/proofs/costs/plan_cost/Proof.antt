@@ -1,3 +1,4 @@
+use Rattle.plan.proofs.SoundLaws.{sound-count, row-facts}
 -- `plan_cost` adds the rows' costs. Invariant: the cost of the rows passed, at most 128 each.
 use mathlib.Core.Path.{_≡_, refl, ap, ap₂, _∙_}
 use Prim.Native.Nat.{_+_, _*_, _-_, _≤_}
@@ -5,7 +6,7 @@ use native.Mathlib.Omega.{arith}
 use borrow.Author.Needs.{needs}
 use Rattle.plan.specs.Measures.{mostRows}
 use Rattle.plan.specs.Plan.{rowCount, rowsFrom, firstRows, costOf}
-use Rattle.plan.proofs.SoundLaws.{sound-count, part-length, part-kind, part-exponent, part-cost}
+use Rattle.plan.specs.Row.{rowCost}
 use Rattle.plan.proofs.RowLaws.{cost-next}
 use Rattle.plan_fill.proofs.costs.plan_cost.Statement.{statement}
 use Rattle.plan_fill.proofs.costs.plan_cost.Tie as tie
@@ -23,42 +24,14 @@ loop-holds : tie.Need-loop-holds Inv-loop μ-loop
 unfolding rowsFrom costOf
 loop-holds c = (omega arith, omega arith, refl, sound-count (c .before .before .args .plan .now) (c .before .before .pre .1) .1)
 
-mul-at : tie.Need-mul-at Inv-loop μ-loop
-mul-at c = search needs
-
-add-at : tie.Need-add-at Inv-loop μ-loop
-add-at c = search needs
-
-add-row-cost : tie.Need-add-row-cost Inv-loop μ-loop
-add-row-cost c = search needs
-
-mul-row-cost : tie.Need-mul-row-cost Inv-loop μ-loop
-mul-row-cost c = search needs
-
-sub-row-cost : tie.Need-sub-row-cost Inv-loop μ-loop
-sub-row-cost c = search needs
-
-part-row-cost-start : tie.Need-part-row-cost-start Inv-loop μ-loop
-part-row-cost-start c = search needs
-
-part-row-cost-end : tie.Need-part-row-cost-end Inv-loop μ-loop
-part-row-cost-end c = search needs
+row-requires : tie.Need-row-requires Inv-loop μ-loop
+row-requires c κs = search needs
 
 row-cost-requires : tie.Need-row-cost-requires Inv-loop μ-loop
-row-cost-requires c κs =
-    let plan = c .before .before .before .before .before .args .plan .now in
-    let turn = c .before .before .loop in
-    let asked = c .before .before .before .before .before .pre in (
-      part-length plan (turn .r) (asked .0) (asked .1) (omega arith),
-      (part-kind plan (turn .r) (asked .0) (asked .1) (omega arith), part-exponent plan (turn .r) (asked .0) (asked .1) (omega arith)),
-    )
+row-cost-requires c κs = let facts = row-facts ((c .before .before .before .before .before .args .plan) .now) ((c .before .before .loop .r)) ((c .before .before .before .before .before .pre .0)) ((c .before .before .before .before .before .pre .1)) (omega arith) ((c .row .ensures) .0) in ((facts .words), ((facts .known), (facts .exponent)))
 
 add-total : tie.Need-add-total Inv-loop μ-loop
-add-total c =
-    let plan = c .before .before .before .before .before .before .args .plan .now in
-    let turn = c .before .before .before .loop in
-    let asked = c .before .before .before .before .before .before .pre in
-    omega (arith, part-cost plan (turn .r) (asked .0) (asked .1) (omega arith))
+add-total c = omega (arith, (c .row-cost .ensures), row-facts ((c .before .before .before .before .before .before .args .plan) .now) ((c .before .before .before .loop .r)) ((c .before .before .before .before .before .before .pre .0)) ((c .before .before .before .before .before .before .pre .1)) (omega arith) ((c .before .row .ensures) .0) .cost)
 
 add-r : tie.Need-add-r Inv-loop μ-loop
 add-r c = search needs
@@ -67,16 +40,7 @@ loop-less : tie.Need-loop-less Inv-loop μ-loop
 loop-less c = search needs
 
 loop-again : tie.Need-loop-again Inv-loop μ-loop
-loop-again c =
-    let plan = c .before .before .before .before .before .before .args .plan .now in
-    let turn = c .before .before .before .loop in
-    let asked = c .before .before .before .before .before .before .pre in (
-      omega arith,
-      omega (arith, part-cost plan (turn .r) (asked .0) (asked .1) (omega arith)),
-      ap₂ _+_ (turn .inv .2) (c .row-cost .ensures) ∙ cost-next
-          (turn .r) plan,
-      omega arith,
-    )
+loop-again c = let plan = (c .before .before .before .before .before .before .args .plan) .now in (omega arith, omega (arith, (c .row-cost .ensures), row-facts plan ((c .before .before .before .loop .r)) ((c .before .before .before .before .before .before .pre .0)) ((c .before .before .before .before .before .before .pre .1)) (omega arith) ((c .before .row .ensures) .0) .cost), ap₂ _+_ ((c .before .before .before .loop .inv) .2) ((c .row-cost .ensures) ∙ ap (λ x. rowCost x) ((c .before .row .ensures) .0)) ∙ cost-next ((c .before .before .before .loop .r)) plan, omega arith)
 
 returns : tie.Need-returns Inv-loop μ-loop
 returns c =
@@ -93,13 +57,7 @@ plan-cost-spec =
     μ-loop
     shared-slice-read-count
     loop-holds
-    mul-at
-    add-at
-    add-row-cost
-    mul-row-cost
-    sub-row-cost
-    part-row-cost-start
-    part-row-cost-end
+    row-requires
     row-cost-requires
     add-total
     add-r

@@ -1,5 +1,6 @@
+use Rattle.plan.proofs.SoundLaws.{sound-count, row-facts}
 -- `root_value` works out row after row. Invariant: the values of the rows passed stand in front.
-use mathlib.Core.Path.{_≡_, refl}
+use mathlib.Core.Path.{_≡_, refl, ap, _∙_}
 use mathlib.Core.List.{[]}
 use Prim.Native.Nat.{_-_, _≤_}
 use native.Mathlib.Omega.{arith}
@@ -7,8 +8,7 @@ use lib.ListN.{length, take, length-set}
 use borrow.Author.Needs.{needs}
 use Rattle.plan.specs.Measures.{mostRows}
 use Rattle.plan.specs.Plan.{rowsFrom, firstRows}
-use Rattle.plan.specs.Points.{valuesFrom}
-use Rattle.plan.proofs.SoundLaws.{sound-count, part-length, part-a, part-b}
+use Rattle.plan.specs.Points.{rowValue, valuesFrom}
 use Rattle.plan.proofs.Later.{values-store, root-stored}
 use Rattle.plan_fill.proofs.points.root_value.Statement.{statement}
 use Rattle.plan_fill.proofs.points.root_value.Tie as tie
@@ -30,40 +30,11 @@ loop-holds c =
     let asked = c .before .before .before .pre in
     (omega arith, (asked .1 .1), refl, sound-count plan (asked .1 .0) .1)
 
-mul-at : tie.Need-mul-at Inv-loop μ-loop
-mul-at c = search needs
-
-add-at : tie.Need-add-at Inv-loop μ-loop
-add-at c = search needs
-
-add-row-value : tie.Need-add-row-value Inv-loop μ-loop
-add-row-value c = search needs
-
-mul-row-value : tie.Need-mul-row-value Inv-loop μ-loop
-mul-row-value c = search needs
-
-sub-row-value : tie.Need-sub-row-value Inv-loop μ-loop
-sub-row-value c = search needs
-
-part-row-value-start : tie.Need-part-row-value-start Inv-loop μ-loop
-part-row-value-start c = search needs
-
-part-row-value-end : tie.Need-part-row-value-end Inv-loop μ-loop
-part-row-value-end c = search needs
+row-requires : tie.Need-row-requires Inv-loop μ-loop
+row-requires c κs = search needs
 
 row-value-requires : tie.Need-row-value-requires Inv-loop μ-loop
-row-value-requires c κs =
-    let plan = c .before .before .before .before .before .before .before .args .plan .now in
-    let turn = c .before .before .before .loop in
-    let asked = c .before .before .before .before .before .before .before .pre in (
-      part-length plan (turn .r) (asked .0) (asked .1 .0) (omega arith),
-      (
-        omega
-            (arith, part-a plan (turn .r) (asked .0) (asked .1 .0) (omega arith), (turn .inv)),
-        omega
-            (arith, part-b plan (turn .r) (asked .0) (asked .1 .0) (omega arith), (turn .inv)),
-      ),
-    )
+row-value-requires c κs = let facts = row-facts ((c .before .before .before .before .before .before .before .args .plan) .now) ((c .before .before .before .loop .r)) ((c .before .before .before .before .before .before .before .pre .0)) ((c .before .before .before .before .before .before .before .pre .1) .0) (omega arith) ((c .before .row .ensures) .0) in ((facts .words), (omega (arith, facts .a-few, (c .before .before .before .loop .inv)), omega (arith, facts .b-few, (c .before .before .before .loop .inv))))
 
 mul-values : tie.Need-mul-values Inv-loop μ-loop
 mul-values c = search needs
@@ -78,16 +49,7 @@ loop-less : tie.Need-loop-less Inv-loop μ-loop
 loop-less c = search needs
 
 loop-again : tie.Need-loop-again Inv-loop μ-loop
-loop-again c =
-    let plan = c .before .before .before .before .before .before .before .before .args .plan .now in
-    let turn = c .before .before .before .before .loop in
-    let asked = c .before .before .before .before .before .before .before .before .pre in (
-      omega arith,
-      simp length-set (turn .inv .1),
-      values-store 64 (turn .r) plan (turn .values) (asked .1 .0) (omega arith) (omega arith) (turn .inv .2)
-          (c .row-value .ensures),
-      omega arith,
-    )
+loop-again c = let plan = (c .before .before .before .before .before .before .before .before .args .plan) .now in (omega arith, simp length-set ((c .before .before .before .before .loop .inv) .1), values-store 64 ((c .before .before .before .before .loop .r)) plan ((c .before .before .before .before .loop .values)) ((c .before .before .before .before .before .before .before .before .pre .1) .0) (omega arith) (omega arith) ((c .before .before .before .before .loop .inv) .2) ((c .row-value .ensures) ∙ ap (λ x. rowValue 64 ((c .before .before .before .before .loop .values)) x) ((c .before .before .row .ensures) .0)), omega arith)
 
 sub-result : tie.Need-sub-result Inv-loop μ-loop
 sub-result c =
@@ -119,13 +81,7 @@ root-value-spec =
     μ-loop
     shared-slice-read-count
     loop-holds
-    mul-at
-    add-at
-    add-row-value
-    mul-row-value
-    sub-row-value
-    part-row-value-start
-    part-row-value-end
+    row-requires
     row-value-requires
     mul-values
     slice-write-values

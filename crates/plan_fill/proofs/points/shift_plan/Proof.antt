@@ -1,15 +1,14 @@
 -- `shift_plan` shifts row after row. Invariant: the rows passed are shifted, the others wait.
-use mathlib.Core.Path.{_≡_, refl, ap, subst, _∙_}
+use mathlib.Core.Path.{_≡_, refl, ap, subst, sym, _∙_}
 use mathlib.Core.Bool.{true}
 use Prim.Native.Nat.{_-_, _≤_, _+_}
 use native.Mathlib.Omega.{arith}
 use lib.ListN.{length}
-use borrow.Author.Needs.{needs}
-use Rattle.plan.specs.Measures.{rowLength, mostRows}
-use Rattle.plan.specs.Row.{Row, kind, wordA, isChain}
+use Rattle.plan.specs.Measures.{mostRows}
 use Rattle.plan.specs.Plan.{rowCount}
-use Rattle.plan.proofs.SoundLaws.{sound-count, part-length, part-chain}
+use Rattle.plan.proofs.SoundLaws.{sound-count, row-facts}
 use Rattle.plan.proofs.Keeping.{shiftedTo, none-shifted, all-shifted, length-to, waiting, step-put}
+use borrow.Author.Needs.{needs}
 use Rattle.plan_fill.proofs.points.shift_plan.Statement.{statement}
 use Rattle.plan_fill.proofs.points.shift_plan.Tie as tie
 
@@ -23,16 +22,10 @@ slice-read-count : tie.Need-slice-read-count Inv-loop μ-loop
 slice-read-count c = search needs
 
 loop-holds : tie.Need-loop-holds Inv-loop μ-loop
-loop-holds c =
-    let plan = c .before .before .args .plan .now in
-    let asked = c .before .before .pre in
-    (omega arith, refl, none-shifted 64 plan, sound-count plan (asked .1) .1)
+loop-holds c = (omega arith, refl, none-shifted 64 ((c .before .before .args .plan) .now), sound-count ((c .before .before .args .plan) .now) ((c .before .before .pre .1)) .1)
 
-mul-at : tie.Need-mul-at Inv-loop μ-loop
-mul-at c = search needs
-
-add-at : tie.Need-add-at Inv-loop μ-loop
-add-at c = search needs
+start-requires : tie.Need-start-requires Inv-loop μ-loop
+start-requires c κs = search needs
 
 add-shift-row : tie.Need-add-shift-row Inv-loop μ-loop
 add-shift-row c = search needs
@@ -50,12 +43,7 @@ part-shift-row-end : tie.Need-part-shift-row-end Inv-loop μ-loop
 part-shift-row-end c = search needs
 
 shift-row-requires : tie.Need-shift-row-requires Inv-loop μ-loop
-shift-row-requires c κs =
-    let plan = c .before .before .before .before .before .args .plan .now in
-    let turn = c .before .before .loop in
-    let asked = c .before .before .before .before .before .pre in
-    subst (λ (x : Row). (length x ≡ rowLength) × (isChain (kind x) ≡ true → wordA x ≤ 16)) (waiting 64 (turn .r) plan (turn .inv .2))
-    (part-length plan (turn .r) (asked .0) (asked .1) (omega arith), part-chain plan (turn .r) (asked .0) (asked .1) (omega arith))
+shift-row-requires c κs = let facts = row-facts ((c .before .before .before .before .before .before .args .plan) .now) ((c .before .before .before .loop .r)) ((c .before .before .before .before .before .before .pre .0)) ((c .before .before .before .before .before .before .pre .1)) (omega arith) (waiting 64 ((c .before .before .before .loop .r)) ((c .before .before .before .before .before .before .args .plan) .now) ((c .before .before .before .loop .inv) .2) ((c .before .start .ensures))) in ((facts .words), ((facts .a-few), (facts .chain)))
 
 add-r : tie.Need-add-r Inv-loop μ-loop
 add-r c = search needs
@@ -64,21 +52,13 @@ loop-less : tie.Need-loop-less Inv-loop μ-loop
 loop-less c = search needs
 
 loop-again : tie.Need-loop-again Inv-loop μ-loop
-loop-again c =
-    let plan = c .before .before .before .before .before .before .before .before .args .plan .now in
-    let turn = c .before .before .before .before .before .loop in
-    let next = step-put 64 (turn .r) plan (turn .inv .2) (c .before .before .shift-row .ensures) in
-    (omega arith, ap length next ∙ length-to 64 ((turn .r) + 1) plan, next, omega arith)
+loop-again c = let next = step-put 64 ((c .before .before .before .before .before .before .loop .r)) ((c .before .before .before .before .before .before .before .before .before .args .plan) .now) ((c .before .before .before .before .before .before .loop .inv) .2) ((c .before .before .before .before .start .ensures)) ((c .before .before .shift-row .ensures)) in (omega arith, ap length next ∙ length-to 64 (((c .before .before .before .before .before .before .loop .r)) + 1) ((c .before .before .before .before .before .before .before .before .before .args .plan) .now), next, omega arith)
 
 same-length : tie.Need-same-length Inv-loop μ-loop
 same-length c = search needs
 
 returns : tie.Need-returns Inv-loop μ-loop
-returns c =
-    let plan = c .before .before .before .before .args .plan .now in
-    let turn = c .before .loop in
-    let same : (turn .r) ≡ rowCount plan = omega arith in
-    (turn .inv .2) ∙ ap (λ n. shiftedTo 64 n plan) same ∙ all-shifted 64 plan
+returns c = let plan = (c .before .before .before .before .args .plan) .now in let same : ((c .before .loop .r)) ≡ rowCount plan = omega arith in ((c .before .loop .inv) .2) ∙ ap (λ n. shiftedTo 64 n plan) same ∙ all-shifted 64 plan
 
 pub shift-plan-spec : {M : Type 1} → statement M
 shift-plan-spec =
@@ -88,8 +68,7 @@ shift-plan-spec =
     μ-loop
     slice-read-count
     loop-holds
-    mul-at
-    add-at
+    start-requires
     add-shift-row
     mul-shift-row
     sub-shift-row

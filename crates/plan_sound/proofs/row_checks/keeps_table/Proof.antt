@@ -1,13 +1,11 @@
 -- `keeps_table` judges kind, a, b and the words past the elements used, in this order.
 use mathlib.Core.Path.{sym, ap, _∙_}
-use Prim.Native.Nat.{_+_}
 use native.Mathlib.Omega.{arith}
 use lib.ListN.{getD, drop}
-use lib.Seq.{drop-drop}
 use borrow.Author.Tests.{le-ltb, lt-ltb, not-true, not-false}
 use borrow.Author.Needs.{needs}
-use Rattle.plan.specs.Row.{allZero, elementsUsed}
-use Rattle.plan.proofs.RowLaws.{tail-part}
+use Rattle.plan.specs.Row.{allZero, elements}
+use Rattle.plan.proofs.RowLaws.{elements-past}
 use Rattle.plan.proofs.SoundLaws.{a-small, used-most}
 use Rattle.plan_sound.proofs.row_checks.keeps_table.Statement.{statement}
 use Rattle.plan_sound.proofs.row_checks.keeps_table.Tie as tie
@@ -66,6 +64,9 @@ add-unused c =
           (sym (c .before .before .before .before .before .a-is-sound .ensures) ∙ not-false _ (c .before .before .before .before .if2 .left)),
     )
 
+add-all-zero : tie.Need-add-all-zero
+add-all-zero c = search needs
+
 mul-all-zero : tie.Need-mul-all-zero
 mul-all-zero c =
     let row = c .before .before .before .before .before .before .before .before .before .before .args .row .now in
@@ -108,15 +109,14 @@ all-zero-requires c κs = search needs
 returns-4 : tie.Need-returns-4
 returns-4 c =
     let row = c .before .before .before .before .before .before .before .before .before .before .before .before .args .row .now in
-    let used = (c .before .before .elements-used .result) in
     rw (
       lt-ltb (getD row 0 0) 9 (omega arith),
       sym (c .before .before .before .before .before .before .before .a-is-sound .ensures) ∙ not-false _
           (c .before .before .before .before .before .before .if2 .left),
       sym (c .before .before .before .before .b-is-sound .ensures) ∙ not-false _
           (c .before .before .before .if3 .left),
-    ) ((c .all-zero .ensures) ∙ ap allZero (tail-part (3 + used) row) ∙ ap (λ n. allZero (drop (3 + n) row))
-    (c .before .before .elements-used .ensures) ∙ ap allZero (sym (drop-drop (elementsUsed (getD row 0 0) (getD row 1 0)) 3 row)))
+    ) ((c .all-zero .ensures) ∙ ap allZero (elements-past row (c .before .before .elements-used .result))
+    ∙ ap (λ n. allZero (drop n (elements row))) (c .before .before .elements-used .ensures))
 
 pub keeps-table-spec : {M : Type 1} → statement M
 keeps-table-spec =
@@ -132,6 +132,7 @@ keeps-table-spec =
     returns-3
     elements-used-requires
     add-unused
+    add-all-zero
     mul-all-zero
     sub-all-zero
     part-all-zero-start
