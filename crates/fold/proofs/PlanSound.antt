@@ -6,10 +6,10 @@ use Prim.Native.Nat.{ℕ, zero, suc, _+_, _-_, _*_, _%_, _≤_, _<_}
 use native.Mathlib.Nat.{not-suc-le-zero, le-of-suc-le-suc}
 use native.Mathlib.Omega.{arith}
 use lib.Dec.{ltb}
-use lib.ListN.{length, getD, drop, replicate, length-append}
+use lib.ListN.{length, getD, take, drop, replicate, length-append}
 use lib.Seq.{drop-nil, getD-at}
 use borrow.Author.Tests.{lt-ltb, le-ltb, le-leb, eq-eqb}
-use Rattle.plan.specs.Measures.{planLength, rowLength, rowsLength, mostRows}
+use Rattle.plan.specs.Measures.{elementCount, planLength, rowLength, rowsLength, mostRows}
 use Rattle.chain.specs.Chain as Chain
 use Rattle.plan.specs.Row.{Row, kindFacts, between, allZero, oddConstant, soundRow}
 use Rattle.plan.specs.Plan as Plan
@@ -20,7 +20,7 @@ use Rattle.fold.specs.Folding.{wordOf}
 use Rattle.fold.specs.Layout.{rowCount, rowWords, rootRow, behindBoth, rowsFrom, planWords}
 use Rattle.fold.specs.Shape.{Fits, OddBase, WellFormed}
 use Rattle.fold.proofs.Tests.{shaped}
-use Rattle.fold.proofs.ReadBack.{rows-of, some-rows, length-plan, rows-back, zeros-back}
+use Rattle.fold.proofs.ReadBack.{row-elements, rows-of, some-rows, length-plan, rows-back, zeros-back}
 
 -- ---- each row is sound, given the rows before it
 -- A row holds 0 past the elements of its chain.
@@ -38,11 +38,11 @@ module _ (earlier : List Row) where
   constant-sound c = refl
 
   module _ (w : ℕ) (f : List ℕ) (fits : Fits w f) where
-    chain-fits : (between 1 16 (length f - 1) && allZero (drop (length f - 1 + 1) (Chain.row 17 f)) && true) ≡ true
+    chain-fits : (between 1 16 (length f - 1) && allZero (drop (length f - 1 + 1) (take elementCount (Chain.row elementCount f))) && true) ≡ true
     chain-fits =
         ap₂ (λ x y. x && y && true)
         (ap₂ _&&_ (le-leb 1 (length f - 1) (omega (arith, fits .least))) (le-leb (length f - 1) 16 (omega (arith, fits .most))))
-        (zeros-past 17 f (length f - 1 + 1) (omega arith))
+        (ap (λ g. allZero (drop (length f - 1 + 1) g)) (row-elements f) ∙ zeros-past elementCount f (length f - 1 + 1) (omega arith))
 
     sum-sound : soundRow earlier (rowWords 1 (length f - 1) 0 f) ≡ true
     unfolding kindFacts

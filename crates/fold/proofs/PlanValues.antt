@@ -1,19 +1,20 @@
 -- The plan of a folded tree says what the tree says: the value of its root, one shift of its chains, and so every point of a filling.
 use mathlib.Core.Path.{_≡_, refl, sym, ap, ap₂, subst, _∙_}
 use mathlib.Core.Bool.{true, false}
-use mathlib.Core.List.{List, [], _∷_, _++_, map, map-append, append-assoc}
+use mathlib.Core.List.{List, [], _∷_, _++_, map, map-append, append-assoc, append-nil}
 use Prim.Native.Nat.{ℕ, zero, suc, _+_, _-_, _*_, _%_, _^_, _≤_, _<_}
 use native.Mathlib.Nat.{zero-add, add-zero, mul-one, mod-eq-of-lt, suc-inj, suc-ne-zero, not-suc-le-zero, le-of-suc-le-suc}
 use native.Mathlib.Omega.{arith}
-use lib.ListN.{length, getD, drop, replicate, length-append, length-map}
+use lib.ListN.{length, getD, drop, replicate, length-append, length-map, drop-of-length-le}
 use lib.Seq.{getD-take, getD-at}
-use Rattle.plan.specs.Measures.{rowLength, rowsLength}
+use Rattle.plan.specs.Measures.{elementCount, rowLength, rowsLength}
 use Rattle.word.specs.Word as Word
 use Rattle.chain.specs.Chain as Chain
 use Rattle.chain.specs.SumChain.{sumShift}
 use Rattle.chain.specs.ProductChain.{productShift}
 use Rattle.chain.proofs.Values as Values
 use Rattle.chain.proofs.Rows.{entry-row}
+use Rattle.chain.proofs.Trimming.{length-row}
 use Rattle.chain.proofs.Shifting.{length-shift}
 use Rattle.chain.proofs.SumLaws.{value-words}
 use Rattle.chain.proofs.ProductLaws.{value-product-words}
@@ -32,8 +33,8 @@ use Rattle.fold.specs.Layout.{rowCount, rowWords, rootRow, behindBoth, r
 use Rattle.fold.specs.Shape.{Fits, OddBase, WellFormed}
 use Rattle.fold.proofs.Tests.{shaped}
 use Rattle.fold.proofs.FoldShape.{words-below}
-use Rattle.fold.proofs.ReadBack.{FullRows, first-row, later-words, rows-of, some-rows}
-use Rattle.fold.proofs.ReadBack.{chainRow, chain-back, afterRows, words-back, rows-back}
+use Rattle.fold.proofs.ReadBack.{row-elements, FullRows, first-row, later-words, rows-of, some-rows}
+use Rattle.fold.proofs.ReadBack.{row-elements, chainRow, chain-back, afterRows, words-back, rows-back}
 
 -- ---- the value of the root
 -- The value of a row behind others is the last one.
@@ -206,11 +207,17 @@ written-over (suc n) (a ∷ f) (b ∷ g) h e = ap {B = List ℕ} (λ l. b ∷ l)
 module _ (w k : ℕ) (f : List ℕ) (fits : Fits w f) where
   chain-put : (g : List ℕ) → length g ≡ length f → withChain (chainRow k f) g ≡ chainRow k g
   chain-put g e =
-      ap {B = Row} (λ n. k ∷ (length f - 1) ∷ 0 ∷ (g ++ drop n (chainRow k f))) count
-      ∙ ap₂ {B = List ℕ} {C = Row} (λ n l. k ∷ (n - 1) ∷ 0 ∷ l) (sym e) (written-over 17 f g (fits .most) e)
+      ap {B = Row} (λ l. k ∷ (length f - 1) ∷ 0 ∷ l) (ap₂ (λ n h. (g ++ drop n h) ++ drop elementCount (Chain.row elementCount f)) count (row-elements f))
+      ∙ ap₂ {B = List ℕ} {C = Row} (λ n l. k ∷ (n - 1) ∷ 0 ∷ l) (sym e) over
     where
-      count : 4 + (length f - 1) ≡ suc (suc (suc (length f)))
+      count : 1 + (length f - 1) ≡ length f
       count = omega (arith, fits .least)
+
+      over : (g ++ drop (length f) (Chain.row elementCount f)) ++ drop elementCount (Chain.row elementCount f) ≡ Chain.row elementCount g
+      over =
+          ap₂ _++_ (written-over elementCount f g (fits .most) e)
+          (drop-of-length-le (Chain.row elementCount f) {i = elementCount} (omega (arith, length-row elementCount f)))
+          ∙ append-nil (Chain.row elementCount g)
 
   chain-shifted : (_⊙_ : ℕ → ℕ → ℕ)
       → withChain (chainRow k f) (Chain.words w (Chain.shift _⊙_ (chainOf (chainRow k f)))) ≡ chainRow k (Chain.words w (Chain.shift _⊙_ f))

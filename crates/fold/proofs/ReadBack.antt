@@ -6,8 +6,8 @@ use Prim.Native.Nat.{ℕ, zero, suc, _+_, _-_, _*_, _≤_, _<_}
 use native.Mathlib.Nat.{not-suc-le-zero, le-of-suc-le-suc}
 use native.Mathlib.Omega.{arith}
 use lib.ListN.{length, getD, take, drop, replicate, length-append, length-replicate}
-use lib.Seq.{slice, take-at, drop-at}
-use Rattle.plan.specs.Measures.{planLength, rowLength, rowsLength, mostRows, rowStart}
+use lib.Seq.{slice, take-at, drop-at, take-all}
+use Rattle.plan.specs.Measures.{elementCount, planLength, rowLength, rowsLength, mostRows, rowStart}
 use Rattle.chain.specs.Chain as Chain
 use Rattle.chain.proofs.Trimming.{length-row}
 use Rattle.plan.specs.Row.{Row}
@@ -110,8 +110,13 @@ take-row n [] h = refl
 take-row zero (a ∷ f) h = absurd (not-suc-le-zero h)
 take-row (suc n) (a ∷ f) h = ap {B = List ℕ} (λ g. a ∷ g) (take-row n f (le-of-suc-le-suc h))
 
+-- The elements of a row that is written so are its elements.
+pub row-elements : (f : List ℕ) → take elementCount (Chain.row elementCount f) ≡ Chain.row elementCount f
+row-elements f = take-all elementCount (Chain.row elementCount f) (omega (arith, length-row elementCount f))
+
 pub chain-back : (w kind : ℕ) (f : List ℕ) → Fits w f → chainOf (chainRow kind f) ≡ f
-chain-back w kind f fits = ap (λ n. take n (Chain.row 17 f)) count ∙ take-row 17 f (fits .most)
+chain-back w kind f fits =
+    ap₂ (λ n g. take n g) count (row-elements f) ∙ take-row elementCount f (fits .most)
   where
     count : 1 + (length f - 1) ≡ length f
     count = omega (arith, fits .least)

@@ -2,7 +2,7 @@
 use mathlib.Core.List.{List, [], _∷_, _++_}
 use Prim.Native.Nat.{ℕ, _+_, _-_, _*_}
 use lib.ListN.{length, replicate}
-use Rattle.plan.specs.Measures.{rowLength, rowsLength}
+use Rattle.plan.specs.Measures.{elementCount, rowLength, rowsLength}
 use Rattle.chain.specs.Chain as Chain
 use Rattle.plan.specs.Row.{Row}
 use Rattle.fold.specs.Folded.{Folded, constant, sumChain, productChain, sumRow, differenceRow, productRow, minusRow, powerRow, raiseRow}
@@ -21,7 +21,7 @@ rowCount (raiseRow a b) = rowCount a + rowCount b + 1
 
 -- "kind, a, b, then 17 element words. Unused words are 0."
 abbrev pub rowWords : ℕ → ℕ → ℕ → List ℕ → Row
-rowWords kind a b elements = kind ∷ a ∷ b ∷ Chain.row 17 elements
+rowWords kind a b elements = kind ∷ a ∷ b ∷ Chain.row elementCount elements
 
 -- "Rows stand in postfix order of the folded tree, left operand first, root last": the rows of a tree whose first row is row n, and
 -- the number of its root's row.

@@ -8,14 +8,10 @@ use native.Mathlib.Omega.{arith}
 use lib.Dec.{eqb, ltb}
 use lib.ListN.{length, getD, take}
 use borrow.Author.Tests.{ne-eqb}
-use Rattle.plan.specs.Measures.{rowStart}
 use Rattle.chain.specs.Chain.{row}
 use Rattle.chain.specs.Chain as Chain
 use Rattle.chain.proofs.Trimming.{take-trimmed, length-trimmed-some}
-use Rattle.plan.specs.Row.{elements, operandCount}
-use Rattle.plan.specs.Plan as Plan
-use Rattle.plan.proofs.RowLaws.{word-at}
-use Rattle.plan.proofs.SoundLaws.{kind-at}
+use Rattle.plan.specs.Row.{Row, kind, wordA, wordB, elements, operandCount}
 use Rattle.fold.specs.Folded.{ofSum, ofProduct, trimmedProduct}
 use Rattle.fold.specs.Layout.{rowWords, rowsFrom, wordsOf}
 use Rattle.fold_rows.specs.Standing.{withRow, placed, lowered}
@@ -57,16 +53,16 @@ product-trimmed n [] h other = absurd (not-suc-le-zero h)
 product-trimmed n (a ∷ f) h other = rw (ne-eqb a 0 other) (product-row n (Chain.trimmed 1 (a ∷ f)) (omega arith))
 
 -- Row r of a plan, moved down.
-pub lowered-row : (p : List ℕ) (r : ℕ) {a b : ℕ} {e : List ℕ}
-    → a ≡ cond (ltb 0 (operandCount (getD p (rowStart r) 0))) (getD p (rowStart r + 1) 0 - 1) (getD p (rowStart r + 1) 0)
-    → b ≡ cond (eqb (operandCount (getD p (rowStart r) 0)) 2) (getD p (rowStart r + 2) 0 - 1) (getD p (rowStart r + 2) 0)
-    → e ≡ elements (Plan.row p r)
-    → getD p (rowStart r) 0 ∷ a ∷ b ∷ e ≡ lowered (Plan.row p r)
-lowered-row p r {a} {b} {e} ha hb he =
-    rw (kind-at p r, word-at p r 1 (omega arith), word-at p r 2 (omega arith)) (ends (getD p (rowStart r) 0) ha hb he)
+pub lowered-row : (row : Row) {k n x y a b : ℕ} {e : List ℕ} → k ≡ kind row → n ≡ operandCount k → x ≡ wordA row → y ≡ wordB row
+    → a ≡ cond (ltb 0 n) (x - 1) x → b ≡ cond (eqb n 2) (y - 1) y → e ≡ elements row → k ∷ a ∷ b ∷ e ≡ lowered row
+lowered-row row {k} {n} hk hn hx hy ha hb he =
+    λ i. hk i
+    ∷ (ha ∙ ap₂ (λ m z. cond (ltb 0 m) (z - 1) z) count hx) i
+    ∷ (hb ∙ ap₂ (λ m z. cond (eqb m 2) (z - 1) z) count hy) i
+    ∷ he i
   where
-    ends : (k : ℕ) {a a′ b b′ : ℕ} {e e′ : List ℕ} → a ≡ a′ → b ≡ b′ → e ≡ e′ → k ∷ a ∷ b ∷ e ≡ k ∷ a′ ∷ b′ ∷ e′
-    ends k ha hb he = λ i. k ∷ ha i ∷ hb i ∷ he i
+    count : n ≡ operandCount (kind row)
+    count = hn ∙ ap operandCount hk
 
 -- What the code puts into a row is the product chain, trimmed.
 module _ (p : List ℕ) (r : ℕ) (f : List ℕ) (long : length f ≡ 17) where

@@ -9,9 +9,9 @@ use lib.Dec.{eqb, ltb}
 use lib.ListN.{length, getD, take, drop, length-append, length-drop, take-append-drop, length-map}
 use lib.Seq.{take-at, drop-at, getD-at, take-take, take-add, take-suc, take-length, drop-drop, length-take-le, take-append-seam, drop-append-seam}
 use borrow.Author.Tests.{lt-ltb, le-ltb, eq-eqb, ne-eqb}
-use Rattle.plan.specs.Measures.{rowLength, rowStart}
+use Rattle.plan.specs.Measures.{elementCount, rowLength, rowStart}
 use Rattle.chain.specs.Chain as Chain
-use Rattle.plan.specs.Row.{Row, kind, wordA, elements, kindFacts}
+use Rattle.plan.specs.Row.{Row, kind, wordA, elements, firstElement, kindFacts}
 use Rattle.plan.specs.Plan as Plan
 use Rattle.plan.proofs.RowLaws.{row-at, row-part, slice-part}
 use Rattle.plan.proofs.SoundLaws.{earlier-row}
@@ -20,8 +20,9 @@ use Rattle.fold.specs.Folded.{Folded, constant, sumChain, productChain, sumRow,
 use Rattle.fold.specs.Folded.{isConstant, isSumChain, isProductChain, ofSum, ofProduct}
 use Rattle.fold.specs.Folding.{wordOf, is, isSum}
 use Rattle.fold.specs.Layout.{rowCount, rowWords, rootRow, behindBoth, rowsFrom, wordsOf}
-use Rattle.fold.proofs.ReadBack.{FullRows, cut-rows, full-append, rows-of, some-rows}
+use Rattle.fold.proofs.ReadBack.{FullRows, row-elements, cut-rows, full-append, rows-of, some-rows}
 use Rattle.fold_rows.specs.Standing.{withWords, withRow, Stands, placed, lowered, movedDown}
+use Rattle.fold_rows.proofs.RowWords.{length-elements}
 use Rattle.fold_rows.proofs.Placing.{chainWords, sum-row, product-row}
 
 -- ---- rows of 20 words and their words
@@ -155,12 +156,12 @@ module _ (p : List ℕ) (n : ℕ) (a : Folded) (h : Stands p n a) (few : kindOf 
   pub chain-last : wordA (Plan.row p n) ≡ length (Folded.elements a) - 1
   chain-last = ap (λ (row : Row). wordA row) chain-stands
 
-  pub chain-elements : elements (Plan.row p n) ≡ Chain.row 17 (Folded.elements a)
-  chain-elements = ap (λ (row : Row). elements row) chain-stands
+  pub chain-elements : elements (Plan.row p n) ≡ Chain.row elementCount (Folded.elements a)
+  chain-elements = ap (λ (row : Row). elements row) chain-stands ∙ row-elements (Folded.elements a)
 
-  pub chain-word : getD (Plan.row p n) 3 0 ≡ wordOf a
+  pub chain-word : firstElement (Plan.row p n) ≡ wordOf a
   unfolding Chain.row
-  chain-word = ap (λ (row : Row). getD row 3 0) chain-stands
+  chain-word = ap (λ (row : Row). firstElement row) chain-stands
 
 -- ---- the tests of the rules, by kinds
 pub constant-test : (a : Folded) → isConstant a ≡ eqb (kindOf a) 0
@@ -442,7 +443,7 @@ allLowered f = map (λ (row : Row). lowered row) f
 full-lowered : (f : List Row) → FullRows f → FullRows (allLowered f)
 unfolding FullRows
 full-lowered [] h = tt
-full-lowered (row ∷ f) h = (ap (λ k. suc (suc (suc k))) (length-drop 3 row ∙ ap (λ k. k - 3) (h .0)), full-lowered f (h .1))
+full-lowered (row ∷ f) h = (ap (λ k. suc (suc (suc k))) (length-elements row (h .0)), full-lowered f (h .1))
 
 -- Rows that stand from row n + 1 on: after i moves the first i of them stand lowered from row n on, and the others where they stood.
 module _ (p : List ℕ) (n : ℕ) (f : List Row) (room : rowStart n ≤ length p) (full : FullRows f) (h : Holds p (suc n) f) where
@@ -514,17 +515,23 @@ module _ (n k : ℕ) (a : Folded) (left : allLowered (rowsFrom (suc n) a) ≡ ro
       second : suc n + rowCount a + rowCount b - 1 - 1 ≡ n + rowCount a + rowCount b - 1
       second = omega arith
 
+same-elements : (k a b : ℕ) (f : List ℕ) → k ∷ a ∷ b ∷ take elementCount (Chain.row elementCount f) ≡ rowWords k a b f
+same-elements k a b f = ap {B = Row} (λ l. k ∷ a ∷ b ∷ l) (row-elements f)
+
+lowered-leaf : (k a : ℕ) (f : List ℕ) → (k ∷ a ∷ 0 ∷ take elementCount (Chain.row elementCount f)) ∷ [] ≡ rowWords k a 0 f ∷ []
+lowered-leaf k a f = ap {B = List Row} (λ row. row ∷ []) (same-elements k a 0 f)
+
 pub rows-lowered : (n : ℕ) (a : Folded) → allLowered (rowsFrom (suc n) a) ≡ rowsFrom n a
 unfolding rowsFrom kindFacts
-rows-lowered n (constant c) = refl
-rows-lowered n (sumChain f) = refl
-rows-lowered n (productChain f) = refl
-rows-lowered n (sumRow a b) = lowered-both n 3 a (rows-lowered n a) b (rows-lowered (n + rowCount a) b) (λ x y. refl)
-rows-lowered n (differenceRow a b) = lowered-both n 4 a (rows-lowered n a) b (rows-lowered (n + rowCount a) b) (λ x y. refl)
-rows-lowered n (productRow a b) = lowered-both n 5 a (rows-lowered n a) b (rows-lowered (n + rowCount a) b) (λ x y. refl)
-rows-lowered n (minusRow a) = lowered-one n 6 a (rows-lowered n a) 0 (λ x. refl)
-rows-lowered n (powerRow a m) = lowered-one n 7 a (rows-lowered n a) m (λ x. refl)
-rows-lowered n (raiseRow a b) = lowered-both n 8 a (rows-lowered n a) b (rows-lowered (n + rowCount a) b) (λ x y. refl)
+rows-lowered n (constant c) = lowered-leaf 0 0 (c ∷ [])
+rows-lowered n (sumChain f) = lowered-leaf 1 (length f - 1) f
+rows-lowered n (productChain f) = lowered-leaf 2 (length f - 1) f
+rows-lowered n (sumRow a b) = lowered-both n 3 a (rows-lowered n a) b (rows-lowered (n + rowCount a) b) (λ x y. same-elements _ _ _ [])
+rows-lowered n (differenceRow a b) = lowered-both n 4 a (rows-lowered n a) b (rows-lowered (n + rowCount a) b) (λ x y. same-elements _ _ _ [])
+rows-lowered n (productRow a b) = lowered-both n 5 a (rows-lowered n a) b (rows-lowered (n + rowCount a) b) (λ x y. same-elements _ _ _ [])
+rows-lowered n (minusRow a) = lowered-one n 6 a (rows-lowered n a) 0 (λ x. same-elements _ _ _ [])
+rows-lowered n (powerRow a m) = lowered-one n 7 a (rows-lowered n a) m (λ x. same-elements _ _ _ [])
+rows-lowered n (raiseRow a b) = lowered-both n 8 a (rows-lowered n a) b (rows-lowered (n + rowCount a) b) (λ x y. same-elements _ _ _ [])
 
 pub moved-placed : (p : List ℕ) (n : ℕ) (a : Folded) → rowStart n ≤ length p → Stands p (suc n) a → movedDown (suc n) (rowCount a) p ≡ placed p n a
 moved-placed p n a room h =

@@ -3,6 +3,11 @@
 pub mod moved_rows;
 pub mod product_rows;
 
+use plan::ELEMENT_COUNT;
+use plan::ELEMENTS_START;
+use plan::ROW_WORDS;
+use plan_rows::kinds::CONSTANT;
+use plan_rows::row;
 ghost use mathlib.Core.Path.{_≡_};
 ghost use mathlib.Core.Bool.{cond};
 ghost use mathlib.Core.List.{_∷_};
@@ -20,18 +25,18 @@ pub fn elements(plan: &[u64], r: usize) -> [u64; 17]
     requires { ⌜ r < mostRows ⌝ }
     ensures { λ e. ⌜ e ≡ elements (row (now (plan .entry)) r) ⌝ }
 {
-    let first = 4 + 20 * r;
+    let words = row(plan, r);
     let mut e = chain_arrays::zeros();
     let mut j = 0;
-    while j < 17 {
-        e[j] = plan[first + j];
+    while j < ELEMENT_COUNT {
+        e[j] = words[ELEMENTS_START + j];
         j += 1;
     }
     e
 }
 
-// The 20 words of a row, or of anything that is laid out as one.
-pub fn write_row(row: &mut [u64], kind: u64, a: u64, b: u64, elements: [u64; 17])
+// The words of a row.
+fn write_row(row: &mut [u64], kind: u64, a: u64, b: u64, elements: [u64; 17])
     requires { ⌜ length (now row) ≡ rowLength ⌝ }
     ensures { λ _. ⌜ now (row .exit) ≡ kind ∷ a ∷ b ∷ elements ⌝ }
 {
@@ -39,8 +44,8 @@ pub fn write_row(row: &mut [u64], kind: u64, a: u64, b: u64, elements: [u64; 17]
     row[1] = a;
     row[2] = b;
     let mut j = 0;
-    while j < 17 {
-        row[3 + j] = elements[j];
+    while j < ELEMENT_COUNT {
+        row[ELEMENTS_START + j] = elements[j];
         j += 1;
     }
 }
@@ -51,8 +56,8 @@ pub fn write(plan: &mut [u64], r: usize, kind: u64, a: u64, b: u64, elements: [u
     requires { ⌜ r < mostRows ⌝ }
     ensures { λ _. ⌜ now (plan .exit) ≡ withRow (now (plan .entry)) r (kind ∷ a ∷ b ∷ elements) ⌝ }
 {
-    let at = 1 + 20 * r;
-    write_row(&mut plan[at..at + 20], kind, a, b, elements);
+    let at = plan_rows::start(r);
+    write_row(&mut plan[at..at + ROW_WORDS], kind, a, b, elements);
 }
 
 // A chain of length 0 is a constant.
@@ -60,7 +65,7 @@ fn kind_of(chain: u64, last: usize) -> u64
     ensures { λ k. ⌜ k ≡ cond (eqb last 0) 0 chain ⌝ }
 {
     if last == 0 {
-        return 0;
+        return CONSTANT;
     }
     chain
 }

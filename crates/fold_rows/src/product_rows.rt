@@ -1,5 +1,6 @@
 // Product chains as 17 words: filled with ones to work on them, trimmed to put them into a row.
 // Which chains are joined, and how, is decided in the crates above.
+use plan_rows::kinds::PRODUCT_CHAIN;
 ghost use mathlib.Core.Path.{_≡_};
 ghost use Prim.Native.Nat.{_+_, _≤_, _<_};
 ghost use lib.ListN.{length, take};
@@ -28,9 +29,15 @@ pub fn put_product(plan: &mut [u64], r: usize, elements: [u64; 17])
     ensures { λ _. ⌜ now (plan .exit) ≡ placed (now (plan .entry)) r (trimmedProduct elements) ⌝ }
 {
     if elements[0] == 0 {
-        crate::put_chain(plan, r, 2, 0, chain_arrays::zeros());
+        crate::put_chain(plan, r, PRODUCT_CHAIN, 0, chain_arrays::zeros());
         return;
     }
     let last = chain_arrays::trimmed_length(elements, 1);
-    crate::put_chain(plan, r, 2, last, chain_arrays::kept(elements, last));
+    crate::put_chain(
+        plan,
+        r,
+        PRODUCT_CHAIN,
+        last,
+        chain_arrays::kept(elements, last),
+    );
 }

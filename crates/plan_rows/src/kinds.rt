@@ -3,7 +3,7 @@
 use plan::Kind;
 ghost use mathlib.Core.Path.{_≡_};
 ghost use Prim.Native.Nat.{_<_};
-ghost use Rattle.plan.specs.Row.{kindFacts, isChain};
+ghost use Rattle.plan.specs.Row.{kindFacts, operandCount, isChain};
 
 // The kinds of 01's table.
 pub const CONSTANT: u64 = 0;
@@ -67,6 +67,17 @@ pub fn facts(kind: u64) -> Kind
     ensures { λ r. ⌜ r ≡ kindFacts kind ⌝ }
 {
     KINDS[kind as usize]
+}
+
+// The operand rows of a row of this kind; none of what is no kind.
+pub fn operand_count(kind: u64) -> u64
+    ensures { λ r. ⌜ r ≡ operandCount kind ⌝ }
+{
+    if RAISE < kind {
+        return 0;
+    }
+    let facts = facts(kind);
+    facts.operands
 }
 
 pub fn is_chain(kind: u64) -> bool

@@ -1,14 +1,12 @@
 -- `write` writes one row and leaves every other word.
-use borrow.Author.Needs.{needs}
+use native.Mathlib.Omega.{arith}
 use Rattle.fold_rows.proofs.RowWords.{row-put, length-whole}
+use borrow.Author.Needs.{needs}
 use Rattle.fold_rows.proofs.write.Statement.{statement}
 use Rattle.fold_rows.proofs.write.Tie as tie
 
-mul-at : tie.Need-mul-at
-mul-at c = search needs
-
-add-at : tie.Need-add-at
-add-at c = search needs
+start-requires : tie.Need-start-requires
+start-requires c κs = search needs
 
 add-write-row : tie.Need-add-write-row
 add-write-row c = search needs
@@ -32,21 +30,13 @@ same-length : tie.Need-same-length
 same-length c = search needs
 
 returns : tie.Need-returns
-returns c =
-    let plan = c .before .before .before .before .before .args .plan .now in
-    let r = c .before .before .before .before .before .args .r in
-    let kind = c .before .before .before .before .before .args .kind in
-    let a = c .before .before .before .before .before .args .a in
-    let b = c .before .before .before .before .before .args .b in
-    let elements = c .before .before .before .before .before .args .elements in
-    row-put plan r (c .before .before .write-row .ensures) (length-whole kind a b elements (search needs))
+returns c = row-put ((c .before .before .before .before .before .before .args .plan) .now) ((c .before .before .before .before .before .before .args .r)) ((c .before .before .before .before .start .ensures)) ((c .before .before .write-row .ensures)) (length-whole ((c .before .before .before .before .before .before .args .kind)) ((c .before .before .before .before .before .before .args .a)) ((c .before .before .before .before .before .before .args .b)) ((c .before .before .before .before .before .before .args .elements)) (search needs))
 
 pub write-spec : {M : Type 1} → statement M
 write-spec =
     tie.close
     (tie.spec
-    mul-at
-    add-at
+    start-requires
     add-write-row
     mul-write-row
     sub-write-row
