@@ -8,7 +8,7 @@ use lib.Dec.{eqb}
 use lib.ListN.{length, getD, take}
 use borrow.Author.Tests.{eqb-true, eqb-false}
 use Rattle.chain.specs.Chain.{row}
-use Rattle.plan.specs.Row.{Row, kind, wordA, elements}
+use Rattle.plan.specs.Row.{Row, kind, wordA, elements, firstElement}
 use Rattle.plan.specs.Plan as Plan
 use Rattle.fold.specs.Folded as Folded
 use Rattle.fold.specs.Folded.{Folded, constant, sumChain, productChain, sumRow, differenceRow, productRow, minusRow, powerRow, raiseRow}
@@ -16,7 +16,7 @@ use Rattle.fold.specs.Folded.{isConstant}
 use Rattle.fold.specs.Folding.{wordOf, is, lengthOf}
 use Rattle.fold.specs.Layout.{rowWords}
 use Rattle.fold.specs.Shape.{WellFormed}
-use Rattle.fold.proofs.ReadBack.{some-rows, take-row}
+use Rattle.fold.proofs.ReadBack.{row-elements, some-rows, take-row}
 use Rattle.fold.proofs.Tests.{shaped}
 use Rattle.fold_rows.proofs.Stood.{kindOf, root-kind, one-row, chain-stands, is-test, is-none}
 use Rattle.fold_operands.specs.Operands.{Operand, Operands}
@@ -70,7 +70,7 @@ is-the-constant n a e =
 
 -- The code's test for it, on row r.
 abbrev pub constantAt : List ℕ → ℕ → ℕ → Bool
-constantAt p r n = eqb (kind (Plan.row p r)) 0 && eqb (getD (Plan.row p r) 3 0) n
+constantAt p r n = eqb (kind (Plan.row p r)) 0 && eqb (firstElement (Plan.row p r)) n
 
 -- ---- one operand
 module _ {p : List ℕ} {first end : ℕ} {a : Folded} (o : Operand p first end a) where
@@ -92,11 +92,11 @@ module _ {p : List ℕ} {first end : ℕ} {a : Folded} (o : Operand p first end 
     operand-last = ap (λ (row : Row). wordA row) operand-row
 
     pub operand-elements : elements (Plan.row p (end - 1)) ≡ row 17 (Folded.elements a)
-    operand-elements = ap (λ (row : Row). elements row) operand-row
+    operand-elements = ap (λ (row : Row). elements row) operand-row ∙ row-elements (Folded.elements a)
 
-    pub operand-word : getD (Plan.row p (end - 1)) 3 0 ≡ wordOf a
+    pub operand-word : firstElement (Plan.row p (end - 1)) ≡ wordOf a
     unfolding row
-    operand-word = ap (λ (row : Row). getD row 3 0) operand-row
+    operand-word = ap (λ (row : Row). firstElement row) operand-row
 
     pub operand-chain : Chain (Folded.elements a)
     operand-chain = chain-operand a few (o .formed)
@@ -115,16 +115,16 @@ module _ {p : List ℕ} {first end : ℕ} {a : Folded} (o : Operand p first end 
 
   -- The code's test for the constant n.
   pub operand-is : (n : ℕ) → constantAt p (end - 1) n ≡ is n a
-  operand-is n = ap (λ k. eqb k 0 && eqb (getD (Plan.row p (end - 1)) 3 0) n) operand-kind ∙ go (eqb (kindOf a) 0) refl
+  operand-is n = ap (λ k. eqb k 0 && eqb (firstElement (Plan.row p (end - 1))) n) operand-kind ∙ go (eqb (kindOf a) 0) refl
     where
-      go : (t : Bool) → eqb (kindOf a) 0 ≡ t → (eqb (kindOf a) 0 && eqb (getD (Plan.row p (end - 1)) 3 0) n) ≡ is n a
+      go : (t : Bool) → eqb (kindOf a) 0 ≡ t → (eqb (kindOf a) 0 && eqb (firstElement (Plan.row p (end - 1))) n) ≡ is n a
       go true e =
           ap₂ (λ x y. x && eqb y n) e (operand-word (few (eqb-true (kindOf a) 0 e))) ∙ sym (is-test a n (eqb-true (kindOf a) 0 e))
         where
           few : kindOf a ≡ 0 → kindOf a ≤ 2
           few z = omega (arith, z)
       go false e =
-          ap (λ x. x && eqb (getD (Plan.row p (end - 1)) 3 0) n) e ∙ sym (is-none a n (eqb-false (kindOf a) 0 e))
+          ap (λ x. x && eqb (firstElement (Plan.row p (end - 1))) n) e ∙ sym (is-none a n (eqb-false (kindOf a) 0 e))
 
 -- ---- two operands
 pub operands-some : {p : List ℕ} {left middle end : ℕ} {a b : Folded} → Operands p left middle end a b → (left < middle) × (middle < end)

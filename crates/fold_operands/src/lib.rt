@@ -1,28 +1,23 @@
 // Words of the rows of operands that stand in a lent plan: read for the tests of the folding rules, written for what the rules leave.
 // Which rule applies, and what it leaves, is decided in the crates `fold_sums`, `fold_products` and `fold_powers`.
 use chain::ChainAnswer;
+use plan::ELEMENTS_START;
+use plan_rows::kinds::CONSTANT;
+use plan_rows::kinds::SUM_CHAIN;
+use plan_rows::word;
 ghost use mathlib.Core.Path.{_≡_};
-ghost use mathlib.Core.Bool.{_&&_, cond};
+ghost use mathlib.Core.Bool.{cond};
 ghost use mathlib.Core.List.{[], _∷_};
 ghost use Prim.Native.Nat.{_≤_, _<_};
 ghost use lib.Dec.{eqb};
-ghost use lib.ListN.{length, getD};
-ghost use Rattle.plan.specs.Measures.{planLength, rowLength, mostRows};
-ghost use Rattle.plan.specs.Row.{kind, wordA};
+ghost use lib.ListN.{length};
+ghost use Rattle.plan.specs.Measures.{planLength, mostRows};
+ghost use Rattle.plan.specs.Row.{kind, wordA, firstElement};
 ghost use Rattle.plan.specs.Plan.{row};
 ghost use Rattle.fold.specs.Folded.{constant};
 ghost use Rattle.fold.specs.Layout.{rowWords};
+ghost use Rattle.fold_operands.specs.OperandRows.{isConstantRow};
 ghost use Rattle.fold_rows.specs.Standing.{withRow, placed};
-
-// Word i of row r.
-fn word_of(plan: &[u64], r: usize, i: usize) -> u64
-    requires { ⌜ planLength ≤ length (now plan) ⌝ }
-    requires { ⌜ r < mostRows ⌝ }
-    requires { ⌜ i < rowLength ⌝ }
-    ensures { λ w. ⌜ w ≡ getD (row (now (plan .entry)) r) i 0 ⌝ }
-{
-    plan[1 + 20 * r + i]
-}
 
 // The kind of row r.
 pub fn kind(plan: &[u64], r: usize) -> u64
@@ -30,7 +25,7 @@ pub fn kind(plan: &[u64], r: usize) -> u64
     requires { ⌜ r < mostRows ⌝ }
     ensures { λ k. ⌜ k ≡ kind (row (now (plan .entry)) r) ⌝ }
 {
-    word_of(plan, r, 0)
+    word(plan, r, 0)
 }
 
 // The length of the chain in row r; a constant has length 0.
@@ -39,25 +34,25 @@ pub fn length_of(plan: &[u64], r: usize) -> usize
     requires { ⌜ r < mostRows ⌝ }
     ensures { λ k. ⌜ k ≡ wordA (row (now (plan .entry)) r) ⌝ }
 {
-    word_of(plan, r, 1) as usize
+    word(plan, r, 1) as usize
 }
 
 // Element 0 of row r.
 pub fn first_element(plan: &[u64], r: usize) -> u64
     requires { ⌜ planLength ≤ length (now plan) ⌝ }
     requires { ⌜ r < mostRows ⌝ }
-    ensures { λ e. ⌜ e ≡ getD (row (now (plan .entry)) r) 3 0 ⌝ }
+    ensures { λ e. ⌜ e ≡ firstElement (row (now (plan .entry)) r) ⌝ }
 {
-    word_of(plan, r, 3)
+    word(plan, r, ELEMENTS_START)
 }
 
 // Row r is the constant n.
 pub fn is_constant(plan: &[u64], r: usize, n: u64) -> bool
     requires { ⌜ planLength ≤ length (now plan) ⌝ }
     requires { ⌜ r < mostRows ⌝ }
-    ensures { λ s. ⌜ s ≡ (eqb (kind (row (now (plan .entry)) r)) 0 && eqb (getD (row (now (plan .entry)) r) 3 0) n) ⌝ }
+    ensures { λ s. ⌜ s ≡ isConstantRow n (row (now (plan .entry)) r) ⌝ }
 {
-    if kind(plan, r) != 0 {
+    if kind(plan, r) != CONSTANT {
         return false;
     }
     first_element(plan, r) == n
@@ -79,7 +74,7 @@ pub fn put_sum(plan: &mut [u64], r: usize, f: ChainAnswer)
     ensures { λ _. ⌜ now (plan .exit) ≡ withRow (now (plan .entry)) r (cond (eqb (f .length) 0) 0 1 ∷ (f .length) ∷ 0 ∷ (f .elements)) ⌝ }
 {
     let elements = f.elements;
-    fold_rows::put_chain(plan, r, 1, f.length, elements);
+    fold_rows::put_chain(plan, r, SUM_CHAIN, f.length, elements);
 }
 
 // The row of the constant c.
@@ -90,5 +85,5 @@ pub fn put_constant(plan: &mut [u64], r: usize, c: u64)
 {
     let mut e = chain_arrays::zeros();
     e[0] = c;
-    fold_rows::write(plan, r, 0, 0, 0, e);
+    fold_rows::write(plan, r, CONSTANT, 0, 0, e);
 }

@@ -10,6 +10,11 @@ use fold_operands::length_of;
 use fold_operands::put_constant;
 use fold_operands::put_sum;
 use fold_rows::product_rows;
+use plan_rows::kinds::CONSTANT;
+use plan_rows::kinds::LITERAL_POWER;
+use plan_rows::kinds::PRODUCT_CHAIN;
+use plan_rows::kinds::RAISE;
+use plan_rows::kinds::SUM_CHAIN;
 ghost use mathlib.Core.Path.{_≡_};
 ghost use Prim.Native.Nat.{_+_, _-_, _*_, _≤_, _<_};
 ghost use lib.ListN.{length, take};
@@ -53,18 +58,18 @@ fn fold_high_power(plan: &mut [u64], first: usize, end: usize, n: u64) -> usize
     let root_kind = kind(plan, root);
     let k = length_of(plan, root);
     let f = fold_rows::elements(plan, root);
-    if root_kind == 2 {
+    if root_kind == PRODUCT_CHAIN {
         let powers = word_by_word(Operation::Power, product_rows::with_ones(f, k), [n; 17]);
         product_rows::put_product(plan, first, powers);
         return first + 1;
     }
-    if root_kind == 1 {
+    if root_kind == SUM_CHAIN {
         if k as u64 * n <= 16 {
             put_sum(plan, first, power_of(f, k, n));
             return first + 1;
         }
     }
-    append(plan, end, 7, root as u64, n);
+    append(plan, end, LITERAL_POWER, root as u64, n);
     end + 1
 }
 
@@ -77,7 +82,7 @@ pub fn fold_power(plan: &mut [u64], first: usize, end: usize, n: u64) -> usize
     ensures { λ r. ⌜ Folds (λ a. foldPower 64 a n) (now (plan .entry)) first end r (now (plan .exit)) ⌝ }
 {
     let root = end - 1;
-    if kind(plan, root) == 0 {
+    if kind(plan, root) == CONSTANT {
         let c = word::power(first_element(plan, root), n);
         put_constant(plan, first, c);
         return first + 1;
@@ -103,14 +108,14 @@ pub fn fold_raise(plan: &mut [u64], left: usize, middle: usize, end: usize) -> u
     let exponent_root = end - 1;
     let base = kind(plan, base_root);
     let exponent = kind(plan, exponent_root);
-    if base == 0 {
-        if exponent < 2 {
+    if base == CONSTANT {
+        if exponent < PRODUCT_CHAIN {
             let c = first_element(plan, base_root);
             let f = fold_rows::elements(plan, exponent_root);
             product_rows::put_product(plan, left, word_by_word(Operation::Power, [c; 17], f));
             return left + 1;
         }
     }
-    append(plan, end, 8, base_root as u64, exponent_root as u64);
+    append(plan, end, RAISE, base_root as u64, exponent_root as u64);
     end + 1
 }

@@ -9,21 +9,25 @@ use fold_operands::put_constant;
 use fold_operands::put_sum;
 use fold_rows::moved_rows;
 use fold_rows::product_rows;
+use plan_rows::kinds::CONSTANT;
+use plan_rows::kinds::PRODUCT;
+use plan_rows::kinds::PRODUCT_CHAIN;
+use plan_rows::kinds::SUM_CHAIN;
 ghost use mathlib.Core.Path.{_≡_};
 ghost use mathlib.Core.Bool.{_&&_, _||_};
 ghost use Prim.Native.Nat.{_+_, _≤_, _<_};
-ghost use lib.Dec.{eqb, ltb, leb};
-ghost use lib.ListN.{length, getD, take};
+ghost use lib.Dec.{leb};
+ghost use lib.ListN.{length};
 ghost use Rattle.plan.specs.Measures.{planLength, mostRows};
 ghost use Rattle.chain.specs.Chain.{words};
 ghost use Rattle.chain.specs.SumChain.{product};
 ghost use Rattle.chain.specs.ProductChain.{jointProduct};
-ghost use Rattle.chain.specs.Answer.{given};
-ghost use Rattle.plan.specs.Row.{kind, wordA, elements};
+ghost use Rattle.plan.specs.Row.{wordA};
 ghost use Rattle.plan.specs.Plan.{row};
 ghost use Rattle.fold.specs.Folded.{trimmedSum, trimmedProduct};
 ghost use Rattle.fold.specs.Folding.{foldProduct};
-ghost use Rattle.fold_rows.specs.Standing.{placed, filledWithOnes};
+ghost use Rattle.fold_rows.specs.Standing.{placed};
+ghost use Rattle.fold_operands.specs.OperandRows.{isConstantRow, isSumRow, isProductRow, sumIn, productIn};
 ghost use Rattle.fold_operands.specs.Operands.{Two, FoldsBoth};
 
 // The product chain in row r, or a constant as its element 0, filled with ones.
@@ -31,7 +35,7 @@ fn filled(plan: &[u64], r: usize) -> [u64; 17]
     requires { ⌜ planLength ≤ length (now plan) ⌝ }
     requires { ⌜ r < mostRows ⌝ }
     requires { ⌜ wordA (row (now plan) r) ≤ 16 ⌝ }
-    ensures { λ f. ⌜ f ≡ filledWithOnes 17 (take (wordA (row (now (plan .entry)) r) + 1) (elements (row (now (plan .entry)) r))) ⌝ }
+    ensures { λ f. ⌜ f ≡ productIn (row (now (plan .entry)) r) ⌝ }
 {
     let length = length_of(plan, r);
     product_rows::with_ones(fold_rows::elements(plan, r), length)
@@ -42,11 +46,7 @@ fn has_zero(plan: &[u64], a: usize, b: usize) -> bool
     requires { ⌜ planLength ≤ length (now plan) ⌝ }
     requires { ⌜ a < mostRows ⌝ }
     requires { ⌜ b < mostRows ⌝ }
-    ensures { λ s. ⌜
-        s
-        ≡ (eqb (kind (row (now (plan .entry)) a)) 0 && eqb (getD (row (now (plan .entry)) a) 3 0) 0
-        || eqb (kind (row (now (plan .entry)) b)) 0 && eqb (getD (row (now (plan .entry)) b) 3 0) 0)
-        ⌝ }
+    ensures { λ s. ⌜ s ≡ (isConstantRow 0 (row (now (plan .entry)) a) || isConstantRow 0 (row (now (plan .entry)) b)) ⌝ }
 {
     if is_constant(plan, a, 0) {
         return true;
@@ -60,16 +60,13 @@ fn are_sums(plan: &[u64], a: usize, b: usize) -> bool
     requires { ⌜ a < mostRows ⌝ }
     requires { ⌜ b < mostRows ⌝ }
     ensures { λ s. ⌜
-        s
-        ≡ (ltb (kind (row (now (plan .entry)) a)) 2
-        && (ltb (kind (row (now (plan .entry)) b)) 2
-        && leb (wordA (row (now (plan .entry)) a) + wordA (row (now (plan .entry)) b)) 16))
+        s ≡ (isSumRow (row (now (plan .entry)) a) && (isSumRow (row (now (plan .entry)) b) && leb (wordA (row (now (plan .entry)) a) + wordA (row (now (plan .entry)) b)) 16))
         ⌝ }
 {
-    if 1 < kind(plan, a) {
+    if SUM_CHAIN < kind(plan, a) {
         return false;
     }
-    if 1 < kind(plan, b) {
+    if SUM_CHAIN < kind(plan, b) {
         return false;
     }
     let length = length_of(plan, a);
@@ -83,24 +80,20 @@ fn are_sums(plan: &[u64], a: usize, b: usize) -> bool
 fn is_product(plan: &[u64], r: usize) -> bool
     requires { ⌜ planLength ≤ length (now plan) ⌝ }
     requires { ⌜ r < mostRows ⌝ }
-    ensures { λ s. ⌜ s ≡ (eqb (kind (row (now (plan .entry)) r)) 0 || eqb (kind (row (now (plan .entry)) r)) 2) ⌝ }
+    ensures { λ s. ⌜ s ≡ isProductRow (row (now (plan .entry)) r) ⌝ }
 {
     let k = kind(plan, r);
-    if k == 0 {
+    if k == CONSTANT {
         return true;
     }
-    k == 2
+    k == PRODUCT_CHAIN
 }
 
 fn are_products(plan: &[u64], a: usize, b: usize) -> bool
     requires { ⌜ planLength ≤ length (now plan) ⌝ }
     requires { ⌜ a < mostRows ⌝ }
     requires { ⌜ b < mostRows ⌝ }
-    ensures { λ s. ⌜
-        s
-        ≡ ((eqb (kind (row (now (plan .entry)) a)) 0 || eqb (kind (row (now (plan .entry)) a)) 2)
-        && (eqb (kind (row (now (plan .entry)) b)) 0 || eqb (kind (row (now (plan .entry)) b)) 2))
-        ⌝ }
+    ensures { λ s. ⌜ s ≡ (isProductRow (row (now (plan .entry)) a) && isProductRow (row (now (plan .entry)) b)) ⌝ }
 {
     if is_product(plan, a) {
         return is_product(plan, b);
@@ -118,10 +111,7 @@ fn put_product_of_sums(plan: &mut [u64], r: usize, a: usize, b: usize)
     ensures { λ _. ⌜
         now (plan .exit)
         ≡ placed (now (plan .entry)) r
-        (trimmedSum
-        (words 64
-        (product (given (elements (row (now (plan .entry)) a)) (wordA (row (now (plan .entry)) a)))
-        (given (elements (row (now (plan .entry)) b)) (wordA (row (now (plan .entry)) b))))))
+        (trimmedSum (words 64 (product (sumIn (row (now (plan .entry)) a)) (sumIn (row (now (plan .entry)) b)))))
         ⌝ }
 {
     let f = fold_rows::elements(plan, a);
@@ -142,11 +132,7 @@ fn put_product_of_products(plan: &mut [u64], r: usize, a: usize, b: usize)
     ensures { λ _. ⌜
         now (plan .exit)
         ≡ placed (now (plan .entry)) r
-        (trimmedProduct
-        (words 64
-        (jointProduct
-        (filledWithOnes 17 (take (wordA (row (now (plan .entry)) a) + 1) (elements (row (now (plan .entry)) a))))
-        (filledWithOnes 17 (take (wordA (row (now (plan .entry)) b) + 1) (elements (row (now (plan .entry)) b)))))))
+        (trimmedProduct (words 64 (jointProduct (productIn (row (now (plan .entry)) a)) (productIn (row (now (plan .entry)) b)))))
         ⌝ }
 {
     let f = filled(plan, a);
@@ -186,6 +172,6 @@ pub fn fold_product(plan: &mut [u64], left: usize, middle: usize, end: usize) ->
         put_product_of_products(plan, left, left_root, right_root);
         return left + 1;
     }
-    append(plan, end, 5, left_root as u64, right_root as u64);
+    append(plan, end, PRODUCT, left_root as u64, right_root as u64);
     end + 1
 }

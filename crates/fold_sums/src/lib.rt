@@ -10,6 +10,8 @@ use fold_operands::length_of;
 use fold_operands::put_sum;
 use fold_rows::moved_rows;
 pub use minus::fold_minus;
+use plan_rows::kinds::PRODUCT_CHAIN;
+use plan_rows::kinds::SUM;
 ghost use mathlib.Core.Path.{_≡_};
 ghost use mathlib.Core.Bool.{_&&_};
 ghost use Prim.Native.Nat.{_≤_, _<_};
@@ -29,8 +31,8 @@ fn both_sums(plan: &[u64], a: usize, b: usize) -> bool
     requires { ⌜ b < mostRows ⌝ }
     ensures { λ s. ⌜ s ≡ (ltb (kind (row (now (plan .entry)) a)) 2 && ltb (kind (row (now (plan .entry)) b)) 2) ⌝ }
 {
-    if kind(plan, a) < 2 {
-        return kind(plan, b) < 2;
+    if kind(plan, a) < PRODUCT_CHAIN {
+        return kind(plan, b) < PRODUCT_CHAIN;
     }
     false
 }
@@ -47,7 +49,7 @@ fn chain_of_both(plan: &[u64], kind: u64, a: usize, b: usize) -> ChainAnswer
     let k = length_of(plan, a);
     let g = fold_rows::elements(plan, b);
     let l = length_of(plan, b);
-    if kind == 3 {
+    if kind == SUM {
         return chain_calls::sum(f, k, g, l);
     }
     chain_calls::difference(f, k, g, l)
@@ -60,7 +62,7 @@ fn fold_alone(plan: &mut [u64], kind: u64, first: usize, end: usize) -> usize
     requires { ⌜ One (now plan) first end ⌝ }
     ensures { λ r. ⌜ Folds (foldAlone 64 kind) (now (plan .entry)) first end r (now (plan .exit)) ⌝ }
 {
-    if kind == 3 {
+    if kind == SUM {
         return end;
     }
     fold_minus(plan, first, end)

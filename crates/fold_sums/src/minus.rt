@@ -5,6 +5,8 @@ use fold_operands::kind;
 use fold_operands::length_of;
 use fold_operands::put_sum;
 use fold_rows::product_rows;
+use plan_rows::kinds::MINUS;
+use plan_rows::kinds::PRODUCT_CHAIN;
 ghost use Prim.Native.Nat.{_≤_, _<_};
 ghost use lib.ListN.{length};
 ghost use Rattle.plan.specs.Measures.{planLength, mostRows};
@@ -20,7 +22,7 @@ pub fn fold_minus(plan: &mut [u64], first: usize, end: usize) -> usize
 {
     let root = end - 1;
     let root_kind = kind(plan, root);
-    if root_kind < 2 {
+    if root_kind < PRODUCT_CHAIN {
         let f = fold_rows::elements(plan, root);
         let k = length_of(plan, root);
         put_sum(
@@ -30,13 +32,13 @@ pub fn fold_minus(plan: &mut [u64], first: usize, end: usize) -> usize
         );
         return first + 1;
     }
-    if root_kind == 2 {
+    if root_kind == PRODUCT_CHAIN {
         let k = length_of(plan, root);
         let mut f = product_rows::with_ones(fold_rows::elements(plan, root), k);
         f[0] = std::num::wrapping_sub_u64(0, f[0]);
         product_rows::put_product(plan, first, f);
         return first + 1;
     }
-    append(plan, end, 6, root as u64, 0);
+    append(plan, end, MINUS, root as u64, 0);
     end + 1
 }
