@@ -29,11 +29,11 @@ length-part : (i n : ℕ) (l : List ℕ) → i ≤ n → n ≤ length l → leng
 length-part i n l h long = length-take-le (n - i) (drop i l) (rw (length-drop i l) (omega arith))
 
 -- ---- the whole plan
-pub assembled : (start step : ℕ) (p q : List ℕ) (t : Tree) (rows : ℕ) → planLength ≤ length p → length q ≡ length p → FoldedAt start step p t q rows
+behind-rows : (start step : ℕ) (p q : List ℕ) (t : Tree) (rows : ℕ) → planLength ≤ length p → length q ≡ length p → FoldedAt start step p t q rows
     → {cleared : List ℕ} → cleared ≡ replicate (length (part (rowStart rows) planLength (set q 0 rows))) 0
     → partPut (rowStart rows) planLength (set q 0 rows) cleared ≡ planWords (fold 64 start step t) ++ drop planLength p
-assembled start step p [] t rows long same folded e = absurd (omega arith)
-assembled start step p (a ∷ q) t rows long same folded {cleared} e =
+behind-rows start step p [] t rows long same folded e = absurd (omega arith)
+behind-rows start step p (a ∷ q) t rows long same folded {cleared} e =
     part-put (rowStart rows) planLength (rows ∷ q) cleared (omega (arith, folded .few))
     ∙ ap₂ _++_ (ap₂ _++_ front (e ∙ ap (λ n. replicate n 0) count)) (folded .behind)
   where
@@ -47,6 +47,13 @@ assembled start step p (a ∷ q) t rows long same folded {cleared} e =
     count =
         length-part (rowStart rows) planLength (rows ∷ q) (omega (arith, folded .few)) (omega arith)
         ∙ omega (arith, folded .rows)
+
+pub assembled : (start step : ℕ) (p q : List ℕ) (t : Tree) (rows : ℕ) → planLength ≤ length p → length q ≡ length p → FoldedAt start step p t q rows
+    → {at : ℕ} {cleared : List ℕ} → at ≡ rowStart rows → cleared ≡ replicate (length (part at planLength (set q 0 rows))) 0
+    → partPut at planLength (set q 0 rows) cleared ≡ planWords (fold 64 start step t) ++ drop planLength p
+assembled start step p q t rows long same folded {at} {cleared} place e =
+    ap (λ k. partPut k planLength (set q 0 rows) cleared) place
+    ∙ behind-rows start step p q t rows long same folded (e ∙ ap (λ k. replicate (length (part k planLength (set q 0 rows))) 0) place)
 
 -- ---- an accepted tree folds
 pub accepted-compilable : {s : List ℕ} {t : Tree} (start step : ℕ) → Accepted 64 s t → Compilable start step t

@@ -2,11 +2,12 @@
 use mathlib.Core.Path.{_≡_, refl, sym, ap, ap₂, subst, _∙_}
 use mathlib.Core.List.{List, [], _∷_}
 use Prim.Native.Nat.{ℕ, zero, suc, _+_, _-_, _*_, _≤_, _<_}
-use native.Mathlib.Nat.{zero-add, suc-add, add-zero, suc-ne-zero, not-suc-le-zero, le-of-suc-le-suc}
+use native.Mathlib.Nat.{add-zero, suc-ne-zero, not-suc-le-zero, le-of-suc-le-suc}
 use native.Mathlib.Omega.{arith}
 use lib.ListN.{length, getD, take, drop, replicate}
-use lib.Seq.{take-nil, drop-drop, take-take, take-at, getD-drop, getD-take}
+use lib.Seq.{drop-drop, take-take, take-at, getD-drop, getD-take}
 use Rattle.plan.specs.Measures.{planLength}
+use Rattle.plan.proofs.RowLaws.{drop-take}
 use Rattle.formula.specs.Tree.{Tree, nodes}
 use Rattle.formula.specs.Words.{nodeWords, nodesLength, treeLength}
 use Rattle.formula_scan.proofs.Written.{nodes-words}

@@ -3,9 +3,9 @@
 mod machine;
 
 use fold::CompileAnswer;
+use machine::TREE_START;
+use plan::PLAN_WORDS;
 ghost use Rattle.fold.specs.Compiling.{Compiling};
-
-const PLAN_WORDS: usize = 2561;
 
 // Compiles a formula's text on a grid into a lent plan of 2,561 words. A refusal alters no word; words past the plan's own stay.
 pub fn compile(text: &[u8], start: u64, step: u64, plan: &mut [u64]) -> CompileAnswer
@@ -17,7 +17,7 @@ pub fn compile(text: &[u8], start: u64, step: u64, plan: &mut [u64]) -> CompileA
             place: 0,
         };
     }
-    let read = formula_read::read(text, &mut plan[2304..2561]);
+    let read = formula_read::read(text, &mut plan[TREE_START..PLAN_WORDS]);
     if read.number != 0 {
         return CompileAnswer {
             number: read.number,

@@ -6,6 +6,11 @@ pub const MOST_NODES: usize = 128;
 
 pub const TREE_WORDS: usize = 1 + 2 * MOST_NODES;
 
+// The kinds of nodes that have no operands; the others are those of a plan's rows.
+pub const NUMBER: u64 = 0;
+
+pub const VARIABLE: u64 = 1;
+
 // The refusal's number and place; 0 and 0 if accepted.
 pub struct ReadAnswer {
     pub number: u64,
