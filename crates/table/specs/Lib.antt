@@ -4,3 +4,4 @@ pub mod Judged
 pub mod Decimal
 pub mod NumberField
 pub mod Lines
+pub mod Run
