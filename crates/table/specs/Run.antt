@@ -42,7 +42,7 @@ pub data JobsPrint (defaults : List ℕ) : ℕ → List (List ℕ) → List ℕ 
 
 -- "It reads standard input: a line `chain-jobs`, tab, `1`; a defaults line; then job lines."
 pub data LinesPrint : List (List ℕ) → List ℕ → Type 0 where
-  -- "12: header line", place 0. "A refused header or defaults line prints `no`, 0, refusal, place and ends the run."
+  -- "A refused header or defaults line prints `no`, 0, refusal, place and ends the run." "12: header line", place 0, where there is no line too.
   header-absent : LinesPrint [] (noLine 0 12 0)
   header-refused : {header : List ℕ} {more : List (List ℕ)} → isHeader header ≡ false → LinesPrint (header ∷ more) (noLine 0 12 0)
   -- "Place 0 also where the defaults line is absent."
