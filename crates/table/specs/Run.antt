@@ -34,7 +34,7 @@ pub data JobPrints (n : ℕ) (line defaults : List ℕ) : List ℕ → Type 0 wh
   formula-accepted : {t : Tree} → judgedJob line defaults .ok ≡ true → Accepted 64 (picked 1 line defaults) t
       → JobPrints n line defaults (acceptedLines n (judgedJob line defaults) t)
 
--- "then job lines": those lines with those defaults, the first of them job n.
+-- `JobsPrint defaults n lines output`: those job lines, the first of them job n, print that output.
 pub data JobsPrint (defaults : List ℕ) : ℕ → List (List ℕ) → List ℕ → Type 0 where
   no-job : {n : ℕ} → JobsPrint defaults n [] []
   next-job : {n : ℕ} {line : List ℕ} {more : List (List ℕ)} (printed later : List ℕ) → JobPrints n line defaults printed
@@ -42,14 +42,14 @@ pub data JobsPrint (defaults : List ℕ) : ℕ → List (List ℕ) → List ℕ 
 
 -- "It reads standard input: a line `chain-jobs`, tab, `1`; a defaults line; then job lines."
 pub data LinesPrint : List (List ℕ) → List ℕ → Type 0 where
-  -- "A refused header or defaults line prints `no`, 0, refusal, place and ends the run." "12: header line", place 0, where there is no line too.
+  -- "A refused header or defaults line prints `no`, 0, refusal, place and ends the run." A header that is absent is refused as another line is.
   header-absent : LinesPrint [] (noLine 0 12 0)
   header-refused : {header : List ℕ} {more : List (List ℕ)} → isHeader header ≡ false → LinesPrint (header ∷ more) (noLine 0 12 0)
-  -- "Place 0 also where the defaults line is absent."
-  defaults-absent : {header : List ℕ} → isHeader header ≡ true → LinesPrint (header ∷ []) (noLine 0 11 0)
   defaults-refused : {header defaults : List ℕ} {more : List (List ℕ)} → isHeader header ≡ true → judgedDefaults defaults .ok ≡ false
       → LinesPrint (header ∷ defaults ∷ more) (noLine 0 11 (judgedDefaults defaults .place))
-  -- "its number from 1".
+  -- "Place 0 also where the defaults line is absent."
+  defaults-absent : {header : List ℕ} → isHeader header ≡ true → LinesPrint (header ∷ []) (noLine 0 11 0)
+  -- "then job lines", which print nothing but what each job does, "its number from 1".
   jobs-follow : {header defaults output : List ℕ} {more : List (List ℕ)} → isHeader header ≡ true → judgedDefaults defaults .ok ≡ true
       → JobsPrint defaults 1 more output → LinesPrint (header ∷ defaults ∷ more) output
 
