@@ -13,10 +13,13 @@ use Rattle.formula.specs.Words.{mostNodes}
 use Rattle.plan.specs.Measures.{planLength}
 use Rattle.word.specs.Word as Word
 use Rattle.word.proofs.Modulo.{mod-mul-mod, mul-mod-mod}
+use Rattle.formula.specs.declared.ReadAnswer.{ReadAnswer}
 use Rattle.formula.specs.Tree.{Tree, number, literalPower, nodes}
 use Rattle.formula.specs.Grammar.{Formula}
 use Rattle.formula.specs.Value.{directValue}
 use Rattle.formula.specs.Refusals.{TooDeep, StopsAt, Part, Fault, too-long, too-deep, not-grammar, number-over, exponent-number-over, exponent-over, too-many, x-in-base, even-base, Refused, Accepted}
+use Rattle.formula.specs.Refusals as Refusals
+use Rattle.formula.specs.Refusals.{Reading}
 use Rattle.formula_scan.specs.Readers.{Judged, refuses, accepts}
 use Rattle.formula_scan.specs.Verdict.{Verdict}
 use Rattle.formula_scan.proofs.Judging.{judged-stop, fault-number}
@@ -96,6 +99,12 @@ module _ {s : List ℕ} {start step : ℕ} {lent : List ℕ} where
   its-plan (accepted h A) nought means =
       let same = unambiguous (A .means) means in
       (subst (Accepted 64 s) same A, ap (λ t. planWords (fold 64 start step t) ++ drop planLength lent) same)
+
+-- ---- read: a refusal leaves the lent tree
+pub tree-kept : {s lent q : List ℕ} {r : ReadAnswer} → Reading 64 s lent r q → (r .number ≡ 0 → ⊥) → q ≡ lent
+tree-kept (Refusals.too-short h) some = refl
+tree-kept (Refusals.refused h A) some = refl
+tree-kept (Refusals.accepted h A) some = absurd (some refl)
 
 -- ---- refusal 4
 module _ {s : List ℕ} where

@@ -1,5 +1,5 @@
 -- 01's starred cases as one table: the lines with a star of 'Both sides of the edges', each under 01's own words, and what a line says of the
--- public contracts. proofs/StarredTable.antt computes the table and reads a line off; x*x-x^2+7 on any grid is in proofs/AnyGrid.antt.
+-- public contracts. proofs/StarredTable.antt has the theorem that each says what holds.
 use mathlib.Core.Path.{_≡_}
 use mathlib.Core.List.{List, [], _∷_, _++_}
 use Prim.Native.Nat.{ℕ, _-_, _*_, _^_, _≤_, _<_}
@@ -26,17 +26,26 @@ pub data Expected : Type 0 where
   refusal : (number place : ℕ) → Expected
   -- The rows of the plan, their cost, and the values at the first indices.
   folds : (rows : List Row) (cost : ℕ) (values : List ℕ) → Expected
+  -- One row, this constant, which costs nothing, and its value at every index.
+  constantly : (value : ℕ) → Expected
   -- The plan filled with that budget into a table of that many words: the points, the budget spent, and the rows of the plan left.
   fills : (budget room points spent : ℕ) (left : List Row) → Expected
 
+-- The grid that it stands on, or any.
+pub data Grid : Type 0 where
+  gridOf : (start step : ℕ) → Grid
+  anyGrid : Grid
+
 pub record Case : Type 0 where
   pub text : List ℕ
-  pub start : ℕ
-  pub step : ℕ
+  pub grid : Grid
   pub expected : Expected
 
 abbrev pub on : String → (start step : ℕ) → Expected → Case
-on text start step expected = record { text = bytes text; start = start; step = step; expected = expected }
+on text start step expected = record { text = bytes text; grid = gridOf start step; expected = expected }
+
+abbrev pub anywhere : String → Expected → Case
+anywhere text expected = record { text = bytes text; grid = anyGrid; expected = expected }
 
 -- "Start 0 and step 1 unless said."
 abbrev pub plainly : String → Expected → Case
@@ -76,8 +85,10 @@ starred =
     ∷ plainly "x^3" (fills 15 10 3 12 (alone (sumChain (27 ∷ 37 ∷ 24 ∷ 6 ∷ []))))
     -- "3*x+1, start 5, step 2: chain 16,6."
     ∷ on "3*x+1" 5 2 (folds (alone (sumChain (16 ∷ 6 ∷ []))) 1 (16 ∷ 22 ∷ 28 ∷ []))
+    -- "x*x-x^2+7, any grid: constant 7."
+    ∷ anywhere "x*x-x^2+7" (constantly 7)
     -- "x^2, step 2^32: constant 0."
-    ∷ on "x^2" 0 (2 ^ 32) (folds (alone (constant 0)) 0 (0 ∷ 0 ∷ 0 ∷ []))
+    ∷ on "x^2" 0 (2 ^ 32) (constantly 0)
     -- "x and x^2+x, step 2^63: both 0,2^63."
     ∷ on "x" 0 (2 ^ 63) (folds (alone (sumChain (0 ∷ (2 ^ 63) ∷ []))) 1 (0 ∷ (2 ^ 63) ∷ 0 ∷ []))
     ∷ on "x^2+x" 0 (2 ^ 63) (folds (alone (sumChain (0 ∷ (2 ^ 63) ∷ []))) 1 (0 ∷ (2 ^ 63) ∷ 0 ∷ []))
@@ -88,8 +99,8 @@ starred =
     -- "3^(3^(x)): three rows, cost 129, values 3, 27, 19683, 7625597484987."
     ∷ plainly "3^(3^(x))" (folds (constant 3 ∷ productChain (1 ∷ 3 ∷ []) ∷ raise 0 1 ∷ []) 129 (3 ∷ 27 ∷ 19683 ∷ 7625597484987 ∷ []))
     -- "0^0 is 1; 2^3 is 8; 2^(3) is refused 8, place 1; so is x^(2)."
-    ∷ plainly "0^0" (folds (alone (constant 1)) 0 (1 ∷ 1 ∷ []))
-    ∷ plainly "2^3" (folds (alone (constant 8)) 0 (8 ∷ 8 ∷ []))
+    ∷ plainly "0^0" (constantly 1)
+    ∷ plainly "2^3" (constantly 8)
     ∷ plainly "2^(3)" (refusal 8 1)
     ∷ plainly "x^(2)" (refusal 8 1)
     -- "x^17: two rows, cost 17. x^16: one chain, last element 20922789888000."
@@ -149,10 +160,17 @@ pub record FillsSo (s : List ℕ) (start step budget room points spent : ℕ) (l
         plan = planOf left ++ drop planLength lent;
       }
 
+-- A constant has its value at as many indices as are asked for.
 abbrev pub SaysOf : (s : List ℕ) (start step : ℕ) → Expected → Type 0
 SaysOf s start step (refusal number place) = RefusedSo s start step number place
 SaysOf s start step (folds rows cost values) = FoldsSo s start step rows cost values
+SaysOf s start step (constantly value) = (n : ℕ) → FoldsSo s start step (alone (constant value)) 0 (replicate n value)
 SaysOf s start step (fills budget room points spent left) = FillsSo s start step budget room points spent left
 
+-- "any grid": whatever the start and the step.
+abbrev pub SaysOn : List ℕ → Grid → Expected → Type 0
+SaysOn s (gridOf start step) expected = SaysOf s start step expected
+SaysOn s anyGrid expected = (start step : ℕ) → SaysOf s start step expected
+
 abbrev pub Says : Case → Type 0
-Says c = SaysOf (c .text) (c .start) (c .step) (c .expected)
+Says c = SaysOn (c .text) (c .grid) (c .expected)

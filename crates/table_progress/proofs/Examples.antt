@@ -1,5 +1,5 @@
 -- Closed inputs as one table, decided by one computation: document 01's own job file, and headers, defaults lines and last lines of every kind.
-use mathlib.Core.Path.{_≡_, refl, sym, ap₂, _∙_}
+use mathlib.Core.Path.{_≡_, refl, sym, ap₂, subst, _∙_}
 use mathlib.Core.List.{List, [], _∷_, map}
 use Prim.Native.Nat.{ℕ}
 use Prim.Native.String.{String}
@@ -23,10 +23,12 @@ use Rattle.table.specs.declared.JobLine.{JobLine}
 use Rattle.table.specs.Parts.{inFirst, lines, before, after, afterTabs}
 use Rattle.table.specs.Judged.{sameBytes, judgedDefaults, judgedJob}
 use Rattle.table.specs.Lines.{pointLines}
+use Rattle.table.specs.Run.{RunPrints}
 use Rattle.table_progress.specs.Printed.{verdictPrints, judgedPrints, jobPrints}
 use Rattle.table_progress.specs.Run.{linePrints, afterLine, endPrints, linesPrint, run}
 use Rattle.table_progress.specs.Steps.{started}
 use Rattle.table_progress.proofs.Adding.{adds-up}
+use Rattle.table_progress.proofs.RunPrints.{run-prints}
 use Rattle.table_progress.specs.Runs.{Runs}
 
 -- ---- unfolded all the way
@@ -127,3 +129,7 @@ example-printed i =
 pub example-runs : (i : ℕ) {line defaults output : List ℕ} → Runs started line defaults (getD examples i paper .input) output
     → output ≡ getD examples i paper .output
 example-runs i runs = adds-up runs ∙ example-printed i
+
+-- And it is what `RunPrints` says of the input.
+pub example-said : (i : ℕ) → RunPrints (getD examples i paper .input) (getD examples i paper .output)
+example-said i = subst (RunPrints (getD examples i paper .input)) (example-printed i) (run-prints (getD examples i paper .input))

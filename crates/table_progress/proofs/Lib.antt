@@ -19,3 +19,4 @@ pub mod DirectValues
 pub mod Jobs
 pub mod Lengths
 pub mod Promise
+pub mod RunPrints

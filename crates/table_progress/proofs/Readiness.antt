@@ -110,3 +110,18 @@ end-was-ready p b ok = go (ready p b) refl
     go : (t : Bool) → ready p b ≡ t → t ≡ true
     go true e = refl
     go false e = sym (ap (λ o. o .answer .ok) (refused-end p b e)) ∙ ok
+
+-- A call that is not done leaves everything as it was.
+pub step-undone : (p : Progress) (input : List ℕ) (b : Buffers) → stepped p input b .answer .ok ≡ false → stepped p input b ≡ refusedStep p b
+step-undone p input b undone = go (ready p b) refl
+  where
+    go : (t : Bool) → ready p b ≡ t → stepped p input b ≡ refusedStep p b
+    go true e = absurd (false≢true (sym undone ∙ by-step (λ o. o .answer .ok ≡ true) p b e input (λ _. refl) (λ _. refl)))
+    go false e = refused-step p input b e
+
+pub end-undone : (p : Progress) (b : Buffers) → finished p b .answer .ok ≡ false → finished p b ≡ refusedStep p b
+end-undone p b undone = go (ready p b) refl
+  where
+    go : (t : Bool) → ready p b ≡ t → finished p b ≡ refusedStep p b
+    go true e = absurd (false≢true (sym undone ∙ by-end (λ o. o .answer .ok ≡ true) p b e (λ _. refl) (λ _. refl)))
+    go false e = refused-end p b e

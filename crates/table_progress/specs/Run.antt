@@ -1,4 +1,5 @@
--- What a whole run prints: one function from all the input bytes to all the output bytes.
+-- What a whole run prints, as one function from all the input bytes to all the output bytes. Nobody has to believe this page: proofs/RunPrints.antt
+-- shows that it computes what table/specs/Run.antt says.
 use mathlib.Core.Bool.{cond}
 use mathlib.Core.List.{List, [], _∷_, _++_}
 use Prim.Native.Nat.{ℕ, suc}
