@@ -90,6 +90,18 @@ pub fn shift_part(operation: Operation, f: &mut [u64])
     }
 }
 
+// The words of an array laid into a lent part that is as long.
+pub fn lay(f: [u64; 17], part: &mut [u64])
+    requires { ⌜ length (now part) ≡ 17 ⌝ }
+    ensures { λ _. ⌜ now (part .exit) ≡ f ⌝ }
+{
+    let mut j = 0;
+    while j < 17 {
+        part[j] = f[j];
+        j += 1;
+    }
+}
+
 // A refusal with the constant 0.
 pub fn refusal(number: u64) -> ChainAnswer
     ensures { λ r. ⌜ r ≡ answered (refused number) ⌝ }

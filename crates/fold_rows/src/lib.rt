@@ -43,11 +43,10 @@ fn write_row(row: &mut [u64], kind: u64, a: u64, b: u64, elements: [u64; 17])
     row[0] = kind;
     row[1] = a;
     row[2] = b;
-    let mut j = 0;
-    while j < ELEMENT_COUNT {
-        row[ELEMENTS_START + j] = elements[j];
-        j += 1;
-    }
+    chain_arrays::lay(
+        elements,
+        &mut row[ELEMENTS_START..ELEMENTS_START + ELEMENT_COUNT],
+    );
 }
 
 // Row r written anew.

@@ -30,7 +30,10 @@ costWords r = r .number ∷ r .place ∷ r .cost ∷ []
 abbrev pub fillWords : FillAnswer → List ℕ
 fillWords r = r .number ∷ r .place ∷ r .points ∷ r .spent ∷ []
 
--- Number, place, the chain's length, its 17 elements.
+-- Number, place, the chain's length, its 17 elements: 20 words.
+abbrev pub chainAnswerLength : ℕ
+chainAnswerLength = 20
+
 abbrev pub chainWords : ChainAnswer → List ℕ
 chainWords r = r .number ∷ r .place ∷ r .length ∷ r .elements
 

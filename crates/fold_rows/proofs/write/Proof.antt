@@ -1,6 +1,7 @@
 -- `write` writes one row and leaves every other word.
 use native.Mathlib.Omega.{arith}
-use Rattle.fold_rows.proofs.RowWords.{row-put, length-whole}
+use Rattle.fold_rows.proofs.RowWords.{row-put}
+use Rattle.chain_arrays.proofs.Laying.{length-laid}
 use borrow.Author.Needs.{needs}
 use Rattle.fold_rows.proofs.write.Statement.{statement}
 use Rattle.fold_rows.proofs.write.Tie as tie
@@ -30,7 +31,7 @@ same-length : tie.Need-same-length
 same-length c = search needs
 
 returns : tie.Need-returns
-returns c = row-put ((c .before .before .before .before .before .before .args .plan) .now) ((c .before .before .before .before .before .before .args .r)) ((c .before .before .before .before .start .ensures)) ((c .before .before .write-row .ensures)) (length-whole ((c .before .before .before .before .before .before .args .kind)) ((c .before .before .before .before .before .before .args .a)) ((c .before .before .before .before .before .before .args .b)) ((c .before .before .before .before .before .before .args .elements)) (search needs))
+returns c = row-put ((c .before .before .before .before .before .before .args .plan) .now) ((c .before .before .before .before .before .before .args .r)) ((c .before .before .before .before .start .ensures)) ((c .before .before .write-row .ensures)) (length-laid ((c .before .before .before .before .before .before .args .kind)) ((c .before .before .before .before .before .before .args .a)) ((c .before .before .before .before .before .before .args .b)) ((c .before .before .before .before .before .before .args .elements)) (search needs))
 
 pub write-spec : {M : Type 1} → statement M
 write-spec =
