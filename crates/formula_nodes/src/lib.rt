@@ -8,6 +8,7 @@ ghost use mathlib.Core.Path.{_≡_};
 ghost use mathlib.Core.Bool.{true, false, cond, _||_};
 ghost use Prim.Native.Nat.{_+_, _^_, _<_};
 ghost use lib.Dec.{eqb};
+ghost use Rattle.formula.specs.Bytes.{plusSign};
 ghost use Rattle.formula_scan.specs.Readers.{put, wroteMinus, stopping, finding, literalFound, productFound, sumFound};
 
 pub fn stopped(at: usize) -> Found
@@ -175,7 +176,7 @@ pub fn joined_sum(tree: &mut [u64], sign: u8, left: Found, right: Found) -> Foun
     requires { ⌜ left .odd < 2 ⌝ }
     requires { ⌜ right .odd < 2 ⌝ }
     ensures { λ r. ⌜ r ≡ cond (eqb sign 0) right (sumFound left right) ⌝ }
-    ensures { λ _. ⌜ now (tree .exit) ≡ cond (eqb sign 0) (now (tree .entry)) (put (now (tree .entry)) (right .nodes) (cond (eqb sign 43) 3 4) 0) ⌝ }
+    ensures { λ _. ⌜ now (tree .exit) ≡ cond (eqb sign 0) (now (tree .entry)) (put (now (tree .entry)) (right .nodes) (cond (eqb sign plusSign) 3 4) 0) ⌝ }
 {
     if sign == 0 {
         return right;
@@ -194,9 +195,9 @@ pub fn joined_sum(tree: &mut [u64], sign: u8, left: Found, right: Found) -> Foun
 }
 
 fn sum_kind(sign: u8) -> u64
-    ensures { λ r. ⌜ r ≡ cond (eqb sign 43) 3 4 ⌝ }
+    ensures { λ r. ⌜ r ≡ cond (eqb sign plusSign) 3 4 ⌝ }
 {
-    if sign == 43 {
+    if sign == b'+' {
         return 3;
     }
     4

@@ -19,6 +19,7 @@ ghost use mathlib.Core.Bool.{_||_};
 ghost use Prim.Native.Nat.{_<_, _≤_};
 ghost use lib.Dec.{eqb};
 ghost use lib.ListN.{length, getD};
+ghost use Rattle.formula.specs.Bytes.{plusSign, minusSign};
 ghost use Rattle.formula_scan.specs.Readers.{MinusSigns, SumRead, ProductRead, PowerRead, AtomRead, BracketRead};
 
 // The first place from `at` on without a minus sign.
@@ -27,19 +28,19 @@ fn after_minus_signs(text: &[u8], at: usize) -> usize
     ensures { λ r. ⌜ MinusSigns (now (text .entry)) at r ⌝ }
 {
     let mut i = at;
-    while byte_at(text, i) == 45 {
+    while byte_at(text, i) == b'-' {
         i += 1;
     }
     i
 }
 
 fn is_sign(byte: u8) -> bool
-    ensures { λ r. ⌜ r ≡ (eqb byte 43 || eqb byte 45) ⌝ }
+    ensures { λ r. ⌜ r ≡ (eqb byte plusSign || eqb byte minusSign) ⌝ }
 {
-    if byte == 43 {
+    if byte == b'+' {
         return true;
     }
-    byte == 45
+    byte == b'-'
 }
 
 // A sum in brackets, the ( at a place: the sum and the ) after it.
@@ -53,7 +54,7 @@ fn read_bracket(text: &[u8], tree: &mut [u64], at: usize, nodes: usize, fault: u
     if !sum.ok {
         return stopped(end);
     }
-    if byte_at(text, end) != 41 {
+    if byte_at(text, end) != b')' {
         return stopped(end);
     }
     Found {
@@ -70,14 +71,14 @@ fn read_bracket(text: &[u8], tree: &mut [u64], at: usize, nodes: usize, fault: u
 fn read_atom(text: &[u8], tree: &mut [u64], at: usize, nodes: usize, fault: u64) -> Found
     requires { ⌜ at ≤ length (now text) ⌝ }
     requires { ⌜ nodes ≤ at ⌝ }
-    requires { ⌜ (getD (now text) at 0 ≡ 45 → ⊥) ⌝ }
+    requires { ⌜ (getD (now text) at 0 ≡ minusSign → ⊥) ⌝ }
     ensures { λ r. ⌜ AtomRead (now (text .entry)) at nodes fault (now (tree .entry)) r (now (tree .exit)) ⌝ }
 {
     let byte = byte_at(text, at);
-    if byte == 40 {
+    if byte == b'(' {
         return read_bracket(text, tree, at, nodes, fault);
     }
-    if byte == 120 {
+    if byte == b'x' {
         return noted(tree, 1, 0, true, 0, at + 1, nodes, fault);
     }
     if !is_digit(byte) {
@@ -101,7 +102,7 @@ fn read_atom(text: &[u8], tree: &mut [u64], at: usize, nodes: usize, fault: u64)
 fn read_power(text: &[u8], tree: &mut [u64], at: usize, nodes: usize, fault: u64) -> Found
     requires { ⌜ at ≤ length (now text) ⌝ }
     requires { ⌜ nodes ≤ at ⌝ }
-    requires { ⌜ (getD (now text) at 0 ≡ 45 → ⊥) ⌝ }
+    requires { ⌜ (getD (now text) at 0 ≡ minusSign → ⊥) ⌝ }
     ensures { λ r. ⌜ PowerRead (now (text .entry)) at nodes fault (now (tree .entry)) r (now (tree .exit)) ⌝ }
 {
     let base = read_atom(text, tree, at, nodes, fault);
@@ -109,7 +110,7 @@ fn read_power(text: &[u8], tree: &mut [u64], at: usize, nodes: usize, fault: u64
         return base;
     }
     let caret = base.at;
-    if byte_at(text, caret) != 94 {
+    if byte_at(text, caret) != b'^' {
         return base;
     }
     let place = caret + 1;
@@ -118,7 +119,7 @@ fn read_power(text: &[u8], tree: &mut [u64], at: usize, nodes: usize, fault: u64
         let number = read_number(text, place);
         return literal_power(tree, base, number);
     }
-    if byte != 40 {
+    if byte != b'(' {
         return stopped(place);
     }
     let least = faults::lesser(
@@ -170,7 +171,7 @@ fn read_product(text: &[u8], tree: &mut [u64], at: usize, nodes: usize, fault: u
         }
         let whole = joined_product(tree, joined, left, right);
         let end = whole.at;
-        if byte_at(text, end) != 42 {
+        if byte_at(text, end) != b'*' {
             return whole;
         }
         left = beyond(whole);

@@ -6,6 +6,7 @@ use mathlib.Core.List.{List}
 use Prim.Native.Nat.{ℕ, zero, suc, _+_, _-_, _*_, _/_, _%_, _^_, _≤_, _<_, min}
 use lib.Dec.{eqb, leb, ltb}
 use lib.ListN.{length, getD, drop, set}
+use Rattle.formula.specs.Bytes.{star, plusSign, minusSign}
 use Rattle.formula.specs.Words.{mostNodes}
 use Rattle.formula_scan.specs.declared.Found.{Found}
 use Rattle.formula_scan.specs.declared.Numeral.{Numeral}
@@ -119,10 +120,10 @@ abbrev pub Anything : ℕ → Type 0
 Anything c = Unit {0}
 
 abbrev pub NoStar : ℕ → Type 0
-NoStar c = c ≡ 42 → ⊥
+NoStar c = c ≡ star → ⊥
 
 abbrev pub NoSign : ℕ → Type 0
-NoSign c = (c ≡ 42 → ⊥) × (c ≡ 43 → ⊥) × (c ≡ 45 → ⊥)
+NoSign c = (c ≡ star → ⊥) × (c ≡ plusSign → ⊥) × (c ≡ minusSign → ⊥)
 
 -- A product stands in a sum at one level.
 abbrev pub InSum : Type 0
@@ -183,7 +184,7 @@ pub record Pushed (number : Numeral) (digit : ℕ) (r : Numeral) : Type 0 where
 pub record MinusSigns (l : List ℕ) (at p : ℕ) : Type 0 where
   pub onward : at ≤ p
   pub inside : p ≤ length l
-  pub none : getD l p 0 ≡ 45 → ⊥
+  pub none : getD l p 0 ≡ minusSign → ⊥
   pub counted : (σ : PendingSum) (π : Rattle.formula_scan.specs.Scan.PendingProduct) (m : ℕ) (o : Outer)
       → run (operand (level σ π m o)) at (drop at l) ≡ run (operand (level σ π (m + (p - at)) o)) p (drop p l)
 

@@ -5,8 +5,6 @@ ghost use Prim.Native.Nat.{_+_, _≤_};
 ghost use lib.ListN.{length, drop};
 ghost use Rattle.table.specs.Parts.{before, afterTabs, field, fieldCount, picked};
 
-const TAB: u8 = 9;
-
 // The place of the first such byte at or after a place, or the length.
 pub fn find(bytes: &[u8], from: usize, byte: u8) -> usize
     requires { ⌜ from ≤ length (now bytes) ⌝ }
@@ -30,7 +28,7 @@ fn field_start(line: &[u8], tabs: usize) -> usize
     let mut at = 0;
     let mut i = 0;
     while i < tabs {
-        let end = find(line, at, TAB);
+        let end = find(line, at, b'\t');
         if end == line.len() {
             return end;
         }
@@ -46,7 +44,7 @@ pub fn field<'a>(line: &'a [u8], n: usize) -> &'a [u8]
     ensures { λ r. ⌜ now r ≡ field n (now (line .entry)) ⌝ }
 {
     let from = field_start(line, n - 1);
-    let to = find(line, from, TAB);
+    let to = find(line, from, b'\t');
     &line[from..to]
 }
 
@@ -69,7 +67,7 @@ pub fn count_fields(line: &[u8]) -> usize
     let mut fields = 1;
     let mut i = 0;
     while i < line.len() {
-        if line[i] == TAB {
+        if line[i] == b'\t' {
             fields += 1;
         }
         i += 1;

@@ -12,8 +12,6 @@ ghost use lib.ListN.{length};
 ghost use Rattle.plan.specs.Measures.{planLength};
 ghost use Rattle.table_progress.specs.Steps.{started, haveRoom, isReachable, mostPrinted, over, heldWith, stepped, lastLine, finished};
 
-const LINE_FEED: u8 = 10;
-
 // One byte more than a line may have.
 const HELD_AT_MOST: usize = 4097;
 
@@ -138,7 +136,7 @@ pub fn step(
     if !is_reachable(progress) {
         return refused(progress);
     }
-    let end = fields::find(input, 0, LINE_FEED);
+    let end = fields::find(input, 0, b'\n');
     let held = hold(line, progress.held, &input[0..end]);
     if end == input.len() {
         let awaited = progress.awaited;
