@@ -31,9 +31,13 @@ parity (minus a) = parity a
 parity (literalPower a p n) = cond (eqb n 0) 1 (parity a)
 parity (raise a p b) = 1
 
--- A fault as one number, smaller for a smaller refusal number and then for a smaller place; `noFault` is above all of 5 to 8.
+-- A fault as one number, smaller for a smaller refusal number and then for a smaller place, since places are below `faultPlaces`;
+-- `noFault` is above all of 5 to 8.
+abbrev pub faultPlaces : ℕ
+faultPlaces = 2048
+
 abbrev pub faultCode : ℕ → ℕ → ℕ
-faultCode n p = n * 2048 + p
+faultCode n p = n * faultPlaces + p
 
 abbrev pub noFault : ℕ
 noFault = faultCode 9 0
