@@ -3,8 +3,11 @@
 use formula_digits::byte_at;
 use formula_digits::is_digit;
 use formula_digits::read_number;
+use formula_nodes::NUMBER;
+use formula_nodes::RAISE;
+use formula_nodes::VARIABLE;
 use formula_nodes::beyond;
-use formula_nodes::either;
+use formula_nodes::both;
 use formula_nodes::faults;
 use formula_nodes::joined_product;
 use formula_nodes::joined_sum;
@@ -57,14 +60,7 @@ fn read_bracket(text: &[u8], tree: &mut [u64], at: usize, nodes: usize, fault: u
     if byte_at(text, end) != b')' {
         return stopped(end);
     }
-    Found {
-        ok: true,
-        variable: sum.variable,
-        odd: sum.odd,
-        at: end + 1,
-        nodes: sum.nodes,
-        fault: sum.fault,
-    }
+    beyond(sum)
 }
 
 // An atom: a number, x, or a sum in round brackets.
@@ -79,23 +75,30 @@ fn read_atom(text: &[u8], tree: &mut [u64], at: usize, nodes: usize, fault: u64)
         return read_bracket(text, tree, at, nodes, fault);
     }
     if byte == b'x' {
-        return noted(tree, 1, 0, true, 0, at + 1, nodes, fault);
+        let end = at + 1;
+        let letter = Found {
+            ok: true,
+            variable: true,
+            odd: 0,
+            at: end,
+            nodes,
+            fault,
+        };
+        return noted(tree, VARIABLE, 0, letter);
     }
     if !is_digit(byte) {
         return stopped(at);
     }
     let number = read_number(text, at);
-    let least = faults::lesser(fault, faults::number_fault(number, at));
-    noted(
-        tree,
-        0,
-        number.value,
-        false,
-        number.odd,
-        number.at,
+    let numeral = Found {
+        ok: true,
+        variable: false,
+        odd: number.odd,
+        at: number.at,
         nodes,
-        least,
-    )
+        fault: faults::lesser(fault, faults::number_fault(number, at)),
+    };
+    noted(tree, NUMBER, number.value, numeral)
 }
 
 // A power: an atom, perhaps followed by one ^ and an exponent, a number or a sum in round brackets.
@@ -130,16 +133,7 @@ fn read_power(text: &[u8], tree: &mut [u64], at: usize, nodes: usize, fault: u64
     if !exponent.ok {
         return exponent;
     }
-    noted(
-        tree,
-        8,
-        0,
-        either(base.variable, exponent.variable),
-        1,
-        exponent.at,
-        exponent.nodes,
-        exponent.fault,
-    )
+    noted(tree, RAISE, 0, both(base, exponent, 1))
 }
 
 // A factor: any number of leading minus signs, then a power.

@@ -93,6 +93,13 @@ stopping p = record { ok = false; variable = false; odd = 0; at = p; nodes = 0; 
 abbrev pub finding : Bool → ℕ → ℕ → ℕ → ℕ → Found
 finding x odd p n f = record { ok = true; variable = x; odd = odd; at = p; nodes = n; fault = f }
 
+-- What is found with one node more, and what is found of two operands, one after the other, whose whole has the oddness given.
+abbrev pub withNode : Found → Found
+withNode f = finding (f .variable) (f .odd) (f .at) (f .nodes + 1) (f .fault)
+
+abbrev pub bothFound : Found → Found → ℕ → Found
+bothFound left right odd = finding (left .variable || right .variable) odd (right .at) (right .nodes) (right .fault)
+
 -- What is found of a literal power, a product and a sum, from what was found of the operands.
 abbrev pub literalFound : Found → Numeral → Found
 literalFound base num =
@@ -100,12 +107,10 @@ literalFound base num =
     (min (base .fault) (cond (num .over) (faultCode 5 (base .at + 1)) (cond (leb (num .value) 64) noFault (faultCode 6 (base .at + 1)))))
 
 abbrev pub productFound : Found → Found → Found
-productFound left right =
-    finding (left .variable || right .variable) (left .odd * right .odd) (right .at) (right .nodes + 1) (right .fault)
+productFound left right = withNode (bothFound left right (left .odd * right .odd))
 
 abbrev pub sumFound : Found → Found → Found
-sumFound left right =
-    finding (left .variable || right .variable) ((left .odd + right .odd) % 2) (right .at) (right .nodes + 1) (right .fault)
+sumFound left right = withNode (bothFound left right ((left .odd + right .odd) % 2))
 
 -- What is found of the tree t that ends before place p, after n nodes and the faults f.
 abbrev pub found : ℕ → Tree → ℕ → ℕ → ℕ → Found
