@@ -10,6 +10,7 @@ ghost use mathlib.Core.Bool.{true, false};
 ghost use Prim.Native.Nat.{_+_, _-_, _^_, _≤_, _<_};
 ghost use lib.ListN.{length};
 ghost use Rattle.plan.specs.Measures.{planLength};
+ghost use Rattle.table_progress.specs.Runs.{lent};
 ghost use Rattle.table_progress.specs.Steps.{started, haveRoom, isReachable, mostPrinted, over, heldWith, stepped, lastLine, finished};
 
 // One byte more than a line may have.
@@ -109,20 +110,8 @@ pub fn step(
     table: &mut [u64],
     out: &mut [u8],
 ) -> Stepped
-    ensures { λ r. ⌜
-        record {
-          answer = r;
-          buffers = record {
-            line = now (line .exit);
-            defaults = now (defaults .exit);
-            plan = now (plan .exit);
-            table = now (table .exit);
-            out = now (out .exit);
-          };
-        }
-        ≡ stepped progress (now (input .entry))
-        (record { line = now (line .entry); defaults = now (defaults .entry); plan = now (plan .entry); table = now (table .entry); out = now (out .entry) })
-        ⌝ }
+    ensures { λ r. ⌜ record { answer = r; buffers = lent (now (line .exit)) (now (defaults .exit)) (now (plan .exit)) (now (table .exit)) (now (out .exit)) }
+        ≡ stepped progress (now (input .entry)) (lent (now (line .entry)) (now (defaults .entry)) (now (plan .entry)) (now (table .entry)) (now (out .entry))) ⌝ }
 {
     if !have_room(
         line.len(),
@@ -179,20 +168,11 @@ fn last_line(
     requires { ⌜ planLength ≤ length (now plan) ⌝ }
     requires { ⌜ 4096 ≤ length (now table) ⌝ }
     requires { ⌜ mostPrinted ≤ length (now out) ⌝ }
-    ensures { λ r. ⌜
-        record {
-          answer = record { ok = true; progress = r .progress; used = 0; wrote = r .wrote };
-          buffers = record {
-            line = now (line .entry);
-            defaults = now (defaults .exit);
-            plan = now (plan .exit);
-            table = now (table .exit);
-            out = now (out .exit);
-          };
-        }
-        ≡ lastLine progress
-        (record { line = now (line .entry); defaults = now (defaults .entry); plan = now (plan .entry); table = now (table .entry); out = now (out .entry) })
-        ⌝ }
+    ensures { λ r. ⌜ record {
+      answer = record { ok = true; progress = r .progress; used = 0; wrote = r .wrote };
+      buffers = lent (now (line .entry)) (now (defaults .exit)) (now (plan .exit)) (now (table .exit)) (now (out .exit));
+    }
+        ≡ lastLine progress (lent (now (line .entry)) (now (defaults .entry)) (now (plan .entry)) (now (table .entry)) (now (out .entry))) ⌝ }
     ensures { λ r. ⌜ r .wrote + 67 ≤ length (now (out .entry)) ⌝ }
 {
     let held = progress.held;
@@ -219,20 +199,8 @@ pub fn finish(
     table: &mut [u64],
     out: &mut [u8],
 ) -> Stepped
-    ensures { λ r. ⌜
-        record {
-          answer = r;
-          buffers = record {
-            line = now (line .entry);
-            defaults = now (defaults .exit);
-            plan = now (plan .exit);
-            table = now (table .exit);
-            out = now (out .exit);
-          };
-        }
-        ≡ finished progress
-        (record { line = now (line .entry); defaults = now (defaults .entry); plan = now (plan .entry); table = now (table .entry); out = now (out .entry) })
-        ⌝ }
+    ensures { λ r. ⌜ record { answer = r; buffers = lent (now (line .entry)) (now (defaults .exit)) (now (plan .exit)) (now (table .exit)) (now (out .exit)) }
+        ≡ finished progress (lent (now (line .entry)) (now (defaults .entry)) (now (plan .entry)) (now (table .entry)) (now (out .entry))) ⌝ }
 {
     if !have_room(
         line.len(),
