@@ -92,10 +92,10 @@ fn hold(line: &mut [u8], held: usize, more: &[u8]) -> usize
     let room = HELD_AT_MOST - held;
     if more.len() <= room {
         let end = held + more.len();
-        table_lines::copy(more, &mut line[held..end]);
+        bytes::copy(more, &mut line[held..end]);
         return end;
     }
-    table_lines::copy(&more[0..room], &mut line[held..HELD_AT_MOST]);
+    bytes::copy(&more[0..room], &mut line[held..HELD_AT_MOST]);
     HELD_AT_MOST
 }
 
