@@ -1,14 +1,12 @@
 // A formula's text and the place reached in it, as one small value above the readers, which take a slice and a number.
 // The grammar is read in `formula_readers`; what a text is refused for is judged in `formula_read`.
+use formula_nodes::faults;
 use formula_nodes::stopped;
 use formula_scan::Found;
 ghost use mathlib.Core.Path.{_≡_};
 ghost use Prim.Native.Nat.{_≤_};
 ghost use lib.ListN.{length};
 ghost use Rattle.formula_cursor.specs.Whole.{Scanned, ifEnded, WholeRead};
-
-// No fault, as `formula_nodes::faults` codes it.
-const NO_FAULT: u64 = 18432;
 
 // A formula's text and the place reached in it.
 pub struct Cursor<'a> {
@@ -22,7 +20,7 @@ fn sum_from(text: &[u8], place: usize) -> Found
     ensures { λ r. ⌜ Scanned (now (text .entry)) place r ⌝ }
 {
     let mut none = [0u64; 1];
-    formula_readers::read_sum(text, &mut none[0..0], place, 0, NO_FAULT)
+    formula_readers::read_sum(text, &mut none[0..0], place, 0, faults::NO_FAULT)
 }
 
 // What was found of a sum, if no byte is left from a place on; else no formula goes on past that place.

@@ -22,10 +22,10 @@ pub fn byte_at(text: &[u8], at: usize) -> u8
 pub fn is_digit(byte: u8) -> bool
     ensures { λ r. ⌜ r ≡ (leb 48 byte && leb byte 57) ⌝ }
 {
-    if byte < 48 {
+    if byte < b'0' {
         return false;
     }
-    byte <= 57
+    byte <= b'9'
 }
 
 // The number with one more digit at its end.
@@ -91,5 +91,5 @@ fn digit_of(byte: u8) -> u64
     requires { ⌜ Digit byte ⌝ }
     ensures { λ r. ⌜ r + 48 ≡ byte ⌝ }
 {
-    (byte - 48) as u64
+    (byte - b'0') as u64
 }

@@ -1,4 +1,4 @@
-// Refusals 5, 6 and 8 as the readers note them: number times 2048 plus place, so that the least code is the refusal.
+// Refusals as the readers note them: one code for number and place, so that the least code is the refusal. Refusals 5, 6 and 8 are found here.
 // Refusals 2, 3, 4 and 7 are judged in `formula_read`.
 use formula_scan::Numeral;
 ghost use mathlib.Core.Path.{_≡_};
@@ -7,8 +7,20 @@ ghost use Prim.Native.Nat.{_^_, _<_, min};
 ghost use lib.Dec.{eqb, leb};
 ghost use Rattle.formula_scan.specs.Readers.{noFault, faultCode, baseFault};
 
+// A code is the number times this, and the place, which is less.
+pub const PLACES: u64 = 2048;
+
 // No fault: above the code of any.
-const NO_FAULT: u64 = 18432;
+pub const NO_FAULT: u64 = 9 * PLACES;
+
+// The code of a refusal at a place.
+pub fn fault(number: u64, place: usize) -> u64
+    requires { ⌜ number < 9 ⌝ }
+    requires { ⌜ place < 2 ^ 63 ⌝ }
+    ensures { λ r. ⌜ r ≡ faultCode number place ⌝ }
+{
+    number * PLACES + place as u64
+}
 
 pub fn lesser(a: u64, b: u64) -> u64
     ensures { λ r. ⌜ r ≡ min a b ⌝ }
@@ -22,7 +34,7 @@ pub fn number_fault(number: Numeral, place: usize) -> u64
     ensures { λ r. ⌜ r ≡ cond (number .over) (faultCode 5 place) noFault ⌝ }
 {
     if number.over {
-        return 10240 + place as u64;
+        return fault(5, place);
     }
     NO_FAULT
 }
@@ -33,10 +45,10 @@ pub fn literal_fault(number: Numeral, place: usize) -> u64
     ensures { λ r. ⌜ r ≡ cond (number .over) (faultCode 5 place) (cond (leb (number .value) 64) noFault (faultCode 6 place)) ⌝ }
 {
     if number.over {
-        return 10240 + place as u64;
+        return fault(5, place);
     }
     if 64 < number.value {
-        return 12288 + place as u64;
+        return fault(6, place);
     }
     NO_FAULT
 }
@@ -47,10 +59,10 @@ pub fn base_fault(variable: bool, odd: u8, place: usize) -> u64
     ensures { λ r. ⌜ r ≡ baseFault variable odd place ⌝ }
 {
     if variable {
-        return 16384 + place as u64;
+        return fault(8, place);
     }
     if odd == 0 {
-        return 16384 + place as u64;
+        return fault(8, place);
     }
     NO_FAULT
 }

@@ -8,8 +8,27 @@ ghost use mathlib.Core.Path.{_≡_};
 ghost use mathlib.Core.Bool.{true, false, cond, _||_};
 ghost use Prim.Native.Nat.{_+_, _^_, _<_};
 ghost use lib.Dec.{eqb};
-ghost use Rattle.formula_scan.specs.Readers.{put, wroteMinus, stopping, finding, literalFound, productFound, sumFound};
+ghost use Rattle.formula.specs.Bytes.{plusSign};
+ghost use Rattle.formula_scan.specs.Readers.{put, wroteMinus, stopping, finding, withNode, bothFound, literalFound, productFound, sumFound};
 
+// The kinds of nodes.
+pub const NUMBER: u64 = 0;
+
+pub const VARIABLE: u64 = 1;
+
+const SUM: u64 = 3;
+
+const DIFFERENCE: u64 = 4;
+
+const PRODUCT: u64 = 5;
+
+const MINUS: u64 = 6;
+
+const LITERAL_POWER: u64 = 7;
+
+pub const RAISE: u64 = 8;
+
+// Nothing: no formula goes on past a place.
 pub fn stopped(at: usize) -> Found
     ensures { λ r. ⌜ r ≡ stopping at ⌝ }
 {
@@ -35,39 +54,44 @@ fn put(tree: &mut [u64], n: usize, kind: u64, word: u64)
     tree[first + 1] = word;
 }
 
-// Puts a node and counts it.
-pub fn noted(
-    tree: &mut [u64],
-    kind: u64,
-    word: u64,
-    variable: bool,
-    odd: u8,
-    at: usize,
-    nodes: usize,
-    fault: u64,
-) -> Found
-    requires { ⌜ nodes < 2 ^ 63 ⌝ }
-    ensures { λ r. ⌜ r ≡ finding variable odd at (nodes + 1) fault ⌝ }
-    ensures { λ _. ⌜ now (tree .exit) ≡ put (now (tree .entry)) nodes kind word ⌝ }
+// Puts a node behind the nodes so far and counts it. The rest that is found of its tree is given.
+pub fn noted(tree: &mut [u64], kind: u64, word: u64, found: Found) -> Found
+    requires { ⌜ found .nodes < 2 ^ 63 ⌝ }
+    ensures { λ r. ⌜ r ≡ withNode found ⌝ }
+    ensures { λ _. ⌜ now (tree .exit) ≡ put (now (tree .entry)) (found .nodes) kind word ⌝ }
 {
-    put(tree, nodes, kind, word);
+    put(tree, found.nodes, kind, word);
     Found {
         ok: true,
-        variable,
-        odd,
-        at,
-        nodes: nodes + 1,
-        fault,
+        variable: found.variable,
+        odd: found.odd,
+        at: found.at,
+        nodes: found.nodes + 1,
+        fault: found.fault,
     }
 }
 
-pub fn either(a: bool, b: bool) -> bool
+fn either(a: bool, b: bool) -> bool
     ensures { λ r. ⌜ r ≡ (a || b) ⌝ }
 {
     if a {
         return true;
     }
     b
+}
+
+// What is found of two operands, one after the other, whose whole has the oddness given.
+pub fn both(left: Found, right: Found, odd: u8) -> Found
+    ensures { λ r. ⌜ r ≡ bothFound left right odd ⌝ }
+{
+    Found {
+        ok: true,
+        variable: either(left.variable, right.variable),
+        odd,
+        at: right.at,
+        nodes: right.nodes,
+        fault: right.fault,
+    }
 }
 
 // As many minus nodes as there were signs.
@@ -80,16 +104,7 @@ pub fn negated(tree: &mut [u64], power: Found, signs: usize) -> Found
     let mut found = power;
     let mut i = 0;
     while i < signs {
-        let more = noted(
-            tree,
-            6,
-            0,
-            found.variable,
-            found.odd,
-            found.at,
-            found.nodes,
-            found.fault,
-        );
+        let more = noted(tree, MINUS, 0, found);
         found = more;
         i += 1;
     }
@@ -105,16 +120,15 @@ pub fn literal_power(tree: &mut [u64], base: Found, number: Numeral) -> Found
 {
     let fault = faults::lesser(base.fault, faults::literal_fault(number, base.at + 1));
     let odd = faults::literal_odd(base.odd, number);
-    noted(
-        tree,
-        7,
-        number.value,
-        base.variable,
+    let whole = Found {
+        ok: true,
+        variable: base.variable,
         odd,
-        number.at,
-        base.nodes,
+        at: number.at,
+        nodes: base.nodes,
         fault,
-    )
+    };
+    noted(tree, LITERAL_POWER, number.value, whole)
 }
 
 // Nothing read yet.
@@ -131,7 +145,7 @@ pub fn starting(at: usize, nodes: usize, fault: u64) -> Found
     }
 }
 
-// The same, past the byte that joins it to what follows.
+// The same, past the byte behind it: one that joins it to what follows, or the ) of its brackets.
 pub fn beyond(found: Found) -> Found
     requires { ⌜ found .at < 2 ^ 63 ⌝ }
     ensures { λ r. ⌜ r ≡ finding (found .variable) (found .odd) (found .at + 1) (found .nodes) (found .fault) ⌝ }
@@ -157,16 +171,8 @@ pub fn joined_product(tree: &mut [u64], joined: bool, left: Found, right: Found)
     if !joined {
         return right;
     }
-    noted(
-        tree,
-        5,
-        0,
-        either(left.variable, right.variable),
-        left.odd * right.odd,
-        right.at,
-        right.nodes,
-        right.fault,
-    )
+    let odd = left.odd * right.odd;
+    noted(tree, PRODUCT, 0, both(left, right, odd))
 }
 
 // The sum or difference of left and right, by the sign between them, or right alone where there is none.
@@ -175,29 +181,20 @@ pub fn joined_sum(tree: &mut [u64], sign: u8, left: Found, right: Found) -> Foun
     requires { ⌜ left .odd < 2 ⌝ }
     requires { ⌜ right .odd < 2 ⌝ }
     ensures { λ r. ⌜ r ≡ cond (eqb sign 0) right (sumFound left right) ⌝ }
-    ensures { λ _. ⌜ now (tree .exit) ≡ cond (eqb sign 0) (now (tree .entry)) (put (now (tree .entry)) (right .nodes) (cond (eqb sign 43) 3 4) 0) ⌝ }
+    ensures { λ _. ⌜ now (tree .exit) ≡ cond (eqb sign 0) (now (tree .entry)) (put (now (tree .entry)) (right .nodes) (cond (eqb sign plusSign) 3 4) 0) ⌝ }
 {
     if sign == 0 {
         return right;
     }
-    let kind = sum_kind(sign);
-    noted(
-        tree,
-        kind,
-        0,
-        either(left.variable, right.variable),
-        (left.odd + right.odd) % 2,
-        right.at,
-        right.nodes,
-        right.fault,
-    )
+    let odd = (left.odd + right.odd) % 2;
+    noted(tree, sum_kind(sign), 0, both(left, right, odd))
 }
 
 fn sum_kind(sign: u8) -> u64
-    ensures { λ r. ⌜ r ≡ cond (eqb sign 43) 3 4 ⌝ }
+    ensures { λ r. ⌜ r ≡ cond (eqb sign plusSign) 3 4 ⌝ }
 {
-    if sign == 43 {
-        return 3;
+    if sign == b'+' {
+        return SUM;
     }
-    4
+    DIFFERENCE
 }

@@ -28,8 +28,8 @@ pub fn deep_place(text: &[u8]) -> usize
     let mut i = 0;
     while i < text.len() {
         let byte = text[i];
-        opened = counted(byte, 40, opened);
-        closed = counted(byte, 41, closed);
+        opened = counted(byte, b'(', opened);
+        closed = counted(byte, b')', closed);
         if DEEPEST + closed < opened {
             return i;
         }

@@ -21,19 +21,14 @@ const MOST_NODES: usize = 128;
 
 const TREE_WORDS: usize = 257;
 
-// No fault, and 7 at place 0, as `faults` codes them.
-const NO_FAULT: u64 = 18432;
-
-const TOO_MANY: u64 = 14336;
-
 // Refusal 7 for more nodes than a tree holds.
 fn nodes_fault(nodes: usize) -> u64
     ensures { λ r. ⌜ r ≡ cond (ltb mostNodes nodes) (faultCode 7 0) noFault ⌝ }
 {
     if MOST_NODES < nodes {
-        return TOO_MANY;
+        return faults::fault(7, 0);
     }
-    NO_FAULT
+    faults::NO_FAULT
 }
 
 // Refusals 2 to 8 of a text, or none. No tree is written.
@@ -61,10 +56,10 @@ fn judged(text: &[u8]) -> ReadAnswer
         };
     }
     let code = faults::lesser(whole.fault, nodes_fault(whole.nodes));
-    if code < NO_FAULT {
+    if code < faults::NO_FAULT {
         return ReadAnswer {
-            number: code / 2048,
-            place: code % 2048,
+            number: code / faults::PLACES,
+            place: code % faults::PLACES,
         };
     }
     ReadAnswer {
@@ -79,7 +74,7 @@ fn write(text: &[u8], tree: &mut [u64])
     ensures { λ _. ⌜ ((t : Tree) → Accepted 64 (now (text .entry)) t → now (tree .exit) ≡ treeWords t ++ drop treeLength (now (tree .entry))) ⌝ }
 {
     word::clear(&mut tree[0..257]);
-    let sum = formula_readers::read_sum(text, &mut tree[1..257], 0, 0, NO_FAULT);
+    let sum = formula_readers::read_sum(text, &mut tree[1..257], 0, 0, faults::NO_FAULT);
     tree[0] = sum.nodes as u64;
 }
 

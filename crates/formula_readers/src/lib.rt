@@ -3,8 +3,11 @@
 use formula_digits::byte_at;
 use formula_digits::is_digit;
 use formula_digits::read_number;
+use formula_nodes::NUMBER;
+use formula_nodes::RAISE;
+use formula_nodes::VARIABLE;
 use formula_nodes::beyond;
-use formula_nodes::either;
+use formula_nodes::both;
 use formula_nodes::faults;
 use formula_nodes::joined_product;
 use formula_nodes::joined_sum;
@@ -19,6 +22,7 @@ ghost use mathlib.Core.Bool.{_||_};
 ghost use Prim.Native.Nat.{_<_, _≤_};
 ghost use lib.Dec.{eqb};
 ghost use lib.ListN.{length, getD};
+ghost use Rattle.formula.specs.Bytes.{plusSign, minusSign};
 ghost use Rattle.formula_scan.specs.Readers.{MinusSigns, SumRead, ProductRead, PowerRead, AtomRead, BracketRead};
 
 // The first place from `at` on without a minus sign.
@@ -27,19 +31,19 @@ fn after_minus_signs(text: &[u8], at: usize) -> usize
     ensures { λ r. ⌜ MinusSigns (now (text .entry)) at r ⌝ }
 {
     let mut i = at;
-    while byte_at(text, i) == 45 {
+    while byte_at(text, i) == b'-' {
         i += 1;
     }
     i
 }
 
 fn is_sign(byte: u8) -> bool
-    ensures { λ r. ⌜ r ≡ (eqb byte 43 || eqb byte 45) ⌝ }
+    ensures { λ r. ⌜ r ≡ (eqb byte plusSign || eqb byte minusSign) ⌝ }
 {
-    if byte == 43 {
+    if byte == b'+' {
         return true;
     }
-    byte == 45
+    byte == b'-'
 }
 
 // A sum in brackets, the ( at a place: the sum and the ) after it.
@@ -53,55 +57,55 @@ fn read_bracket(text: &[u8], tree: &mut [u64], at: usize, nodes: usize, fault: u
     if !sum.ok {
         return stopped(end);
     }
-    if byte_at(text, end) != 41 {
+    if byte_at(text, end) != b')' {
         return stopped(end);
     }
-    Found {
-        ok: true,
-        variable: sum.variable,
-        odd: sum.odd,
-        at: end + 1,
-        nodes: sum.nodes,
-        fault: sum.fault,
-    }
+    beyond(sum)
 }
 
 // An atom: a number, x, or a sum in round brackets.
 fn read_atom(text: &[u8], tree: &mut [u64], at: usize, nodes: usize, fault: u64) -> Found
     requires { ⌜ at ≤ length (now text) ⌝ }
     requires { ⌜ nodes ≤ at ⌝ }
-    requires { ⌜ (getD (now text) at 0 ≡ 45 → ⊥) ⌝ }
+    requires { ⌜ (getD (now text) at 0 ≡ minusSign → ⊥) ⌝ }
     ensures { λ r. ⌜ AtomRead (now (text .entry)) at nodes fault (now (tree .entry)) r (now (tree .exit)) ⌝ }
 {
     let byte = byte_at(text, at);
-    if byte == 40 {
+    if byte == b'(' {
         return read_bracket(text, tree, at, nodes, fault);
     }
-    if byte == 120 {
-        return noted(tree, 1, 0, true, 0, at + 1, nodes, fault);
+    if byte == b'x' {
+        let end = at + 1;
+        let letter = Found {
+            ok: true,
+            variable: true,
+            odd: 0,
+            at: end,
+            nodes,
+            fault,
+        };
+        return noted(tree, VARIABLE, 0, letter);
     }
     if !is_digit(byte) {
         return stopped(at);
     }
     let number = read_number(text, at);
-    let least = faults::lesser(fault, faults::number_fault(number, at));
-    noted(
-        tree,
-        0,
-        number.value,
-        false,
-        number.odd,
-        number.at,
+    let numeral = Found {
+        ok: true,
+        variable: false,
+        odd: number.odd,
+        at: number.at,
         nodes,
-        least,
-    )
+        fault: faults::lesser(fault, faults::number_fault(number, at)),
+    };
+    noted(tree, NUMBER, number.value, numeral)
 }
 
 // A power: an atom, perhaps followed by one ^ and an exponent, a number or a sum in round brackets.
 fn read_power(text: &[u8], tree: &mut [u64], at: usize, nodes: usize, fault: u64) -> Found
     requires { ⌜ at ≤ length (now text) ⌝ }
     requires { ⌜ nodes ≤ at ⌝ }
-    requires { ⌜ (getD (now text) at 0 ≡ 45 → ⊥) ⌝ }
+    requires { ⌜ (getD (now text) at 0 ≡ minusSign → ⊥) ⌝ }
     ensures { λ r. ⌜ PowerRead (now (text .entry)) at nodes fault (now (tree .entry)) r (now (tree .exit)) ⌝ }
 {
     let base = read_atom(text, tree, at, nodes, fault);
@@ -109,7 +113,7 @@ fn read_power(text: &[u8], tree: &mut [u64], at: usize, nodes: usize, fault: u64
         return base;
     }
     let caret = base.at;
-    if byte_at(text, caret) != 94 {
+    if byte_at(text, caret) != b'^' {
         return base;
     }
     let place = caret + 1;
@@ -118,7 +122,7 @@ fn read_power(text: &[u8], tree: &mut [u64], at: usize, nodes: usize, fault: u64
         let number = read_number(text, place);
         return literal_power(tree, base, number);
     }
-    if byte != 40 {
+    if byte != b'(' {
         return stopped(place);
     }
     let least = faults::lesser(
@@ -129,16 +133,7 @@ fn read_power(text: &[u8], tree: &mut [u64], at: usize, nodes: usize, fault: u64
     if !exponent.ok {
         return exponent;
     }
-    noted(
-        tree,
-        8,
-        0,
-        either(base.variable, exponent.variable),
-        1,
-        exponent.at,
-        exponent.nodes,
-        exponent.fault,
-    )
+    noted(tree, RAISE, 0, both(base, exponent, 1))
 }
 
 // A factor: any number of leading minus signs, then a power.
@@ -170,7 +165,7 @@ fn read_product(text: &[u8], tree: &mut [u64], at: usize, nodes: usize, fault: u
         }
         let whole = joined_product(tree, joined, left, right);
         let end = whole.at;
-        if byte_at(text, end) != 42 {
+        if byte_at(text, end) != b'*' {
             return whole;
         }
         left = beyond(whole);

@@ -6,6 +6,7 @@ use mathlib.Core.List.{List}
 use Prim.Native.Nat.{ℕ, zero, suc, _+_, _-_, _*_, _/_, _%_, _^_, _≤_, _<_, min}
 use lib.Dec.{eqb, leb, ltb}
 use lib.ListN.{length, getD, drop, set}
+use Rattle.formula.specs.Bytes.{star, plusSign, minusSign}
 use Rattle.formula.specs.Words.{mostNodes}
 use Rattle.formula_scan.specs.declared.Found.{Found}
 use Rattle.formula_scan.specs.declared.Numeral.{Numeral}
@@ -30,9 +31,13 @@ parity (minus a) = parity a
 parity (literalPower a p n) = cond (eqb n 0) 1 (parity a)
 parity (raise a p b) = 1
 
--- A fault as one number, smaller for a smaller refusal number and then for a smaller place; `noFault` is above all of 5 to 8.
+-- A fault as one number, smaller for a smaller refusal number and then for a smaller place, since places are below `faultPlaces`;
+-- `noFault` is above all of 5 to 8.
+abbrev pub faultPlaces : ℕ
+faultPlaces = 2048
+
 abbrev pub faultCode : ℕ → ℕ → ℕ
-faultCode n p = n * 2048 + p
+faultCode n p = n * faultPlaces + p
 
 abbrev pub noFault : ℕ
 noFault = faultCode 9 0
@@ -88,6 +93,13 @@ stopping p = record { ok = false; variable = false; odd = 0; at = p; nodes = 0; 
 abbrev pub finding : Bool → ℕ → ℕ → ℕ → ℕ → Found
 finding x odd p n f = record { ok = true; variable = x; odd = odd; at = p; nodes = n; fault = f }
 
+-- What is found with one node more, and what is found of two operands, one after the other, whose whole has the oddness given.
+abbrev pub withNode : Found → Found
+withNode f = finding (f .variable) (f .odd) (f .at) (f .nodes + 1) (f .fault)
+
+abbrev pub bothFound : Found → Found → ℕ → Found
+bothFound left right odd = finding (left .variable || right .variable) odd (right .at) (right .nodes) (right .fault)
+
 -- What is found of a literal power, a product and a sum, from what was found of the operands.
 abbrev pub literalFound : Found → Numeral → Found
 literalFound base num =
@@ -95,12 +107,10 @@ literalFound base num =
     (min (base .fault) (cond (num .over) (faultCode 5 (base .at + 1)) (cond (leb (num .value) 64) noFault (faultCode 6 (base .at + 1)))))
 
 abbrev pub productFound : Found → Found → Found
-productFound left right =
-    finding (left .variable || right .variable) (left .odd * right .odd) (right .at) (right .nodes + 1) (right .fault)
+productFound left right = withNode (bothFound left right (left .odd * right .odd))
 
 abbrev pub sumFound : Found → Found → Found
-sumFound left right =
-    finding (left .variable || right .variable) ((left .odd + right .odd) % 2) (right .at) (right .nodes + 1) (right .fault)
+sumFound left right = withNode (bothFound left right ((left .odd + right .odd) % 2))
 
 -- What is found of the tree t that ends before place p, after n nodes and the faults f.
 abbrev pub found : ℕ → Tree → ℕ → ℕ → ℕ → Found
@@ -119,10 +129,10 @@ abbrev pub Anything : ℕ → Type 0
 Anything c = Unit {0}
 
 abbrev pub NoStar : ℕ → Type 0
-NoStar c = c ≡ 42 → ⊥
+NoStar c = c ≡ star → ⊥
 
 abbrev pub NoSign : ℕ → Type 0
-NoSign c = (c ≡ 42 → ⊥) × (c ≡ 43 → ⊥) × (c ≡ 45 → ⊥)
+NoSign c = (c ≡ star → ⊥) × (c ≡ plusSign → ⊥) × (c ≡ minusSign → ⊥)
 
 -- A product stands in a sum at one level.
 abbrev pub InSum : Type 0
@@ -183,7 +193,7 @@ pub record Pushed (number : Numeral) (digit : ℕ) (r : Numeral) : Type 0 where
 pub record MinusSigns (l : List ℕ) (at p : ℕ) : Type 0 where
   pub onward : at ≤ p
   pub inside : p ≤ length l
-  pub none : getD l p 0 ≡ 45 → ⊥
+  pub none : getD l p 0 ≡ minusSign → ⊥
   pub counted : (σ : PendingSum) (π : Rattle.formula_scan.specs.Scan.PendingProduct) (m : ℕ) (o : Outer)
       → run (operand (level σ π m o)) at (drop at l) ≡ run (operand (level σ π (m + (p - at)) o)) p (drop p l)
 

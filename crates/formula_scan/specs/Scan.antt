@@ -4,6 +4,7 @@ use mathlib.Core.Bool.{cond, _&&_}
 use mathlib.Core.List.{List, [], _∷_}
 use Prim.Native.Nat.{ℕ, zero, suc, _+_, _-_, _*_}
 use lib.Dec.{eqb, leb}
+use Rattle.formula.specs.Bytes.{openBracket, closeBracket, star, plusSign, minusSign, caret, letterX}
 use Rattle.formula.specs.Tree.{Tree, number, variable, sum, difference, product, minus, literalPower, raise}
 
 -- What a byte is to the scan.
@@ -21,15 +22,15 @@ pub data Byte : Type 0 where
 
 unfoldable pub byteOf : ℕ → Byte
 byteOf c =
-    cond (eqb c 40) openByte
-    (cond (eqb c 41) closeByte
-    (cond (eqb c 42) starByte
-    (cond (eqb c 43) plusByte
-    (cond (eqb c 45) minusByte
+    cond (eqb c openBracket) openByte
+    (cond (eqb c closeBracket) closeByte
+    (cond (eqb c star) starByte
+    (cond (eqb c plusSign) plusByte
+    (cond (eqb c minusSign) minusByte
     (cond (eqb c 48) zeroByte
     (cond (leb 49 c && leb c 57) (digitByte (c - 48))
-    (cond (eqb c 94) caretByte
-    (cond (eqb c 120) xByte otherByte))))))))
+    (cond (eqb c caret) caretByte
+    (cond (eqb c letterX) xByte otherByte))))))))
 
 -- What waits at one level of brackets: a sum's left operand, a product's left operand, minus signs, and what the brackets stand in.
 pub data PendingSum : Type 0 where

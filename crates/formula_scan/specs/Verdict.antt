@@ -8,7 +8,7 @@ use lib.ListN.{length}
 use Rattle.formula.specs.Bytes.{openBracket, closeBracket}
 use Rattle.formula.specs.Tree.{Tree}
 use Rattle.formula_scan.specs.Scan.{Outcome, reads, stops, scanned}
-use Rattle.formula_scan.specs.Readers.{noFault, code}
+use Rattle.formula_scan.specs.Readers.{faultPlaces, noFault, code}
 
 -- A refusal's number and place, or the tree of an accepted text.
 pub data Verdict : Type 0 where
@@ -26,9 +26,9 @@ deepPlace opened closed at (c ∷ s) =
     cond (ltb (32 + counting closeBracket c closed) (counting openBracket c opened)) at
     (deepPlace (counting openBracket c opened) (counting closeBracket c closed) (at + 1) s)
 
--- 5 to 8, or none: a code has the number times 2,048 and the place.
+-- 5 to 8, or none: a code has the number and the place.
 abbrev pub codeVerdict : Tree → ℕ → Verdict
-codeVerdict t c = cond (ltb c noFault) (refused (c / 2048) (c % 2048)) (accepted t)
+codeVerdict t c = cond (ltb c noFault) (refused (c / faultPlaces) (c % faultPlaces)) (accepted t)
 
 -- 4 to 8, or none, of what the scan makes of the text.
 unfoldable pub outcomeVerdict : Outcome → Verdict

@@ -7,30 +7,12 @@ use native.Mathlib.Numerals.{add-one, unary-clauses}
 use native.Mathlib.Omega.{arith}
 use lib.Dec.{eqb}
 use lib.ListN.{length, getD, take, drop, length-drop, drop-of-length-le}
-use lib.Seq.{drop-cons, drop-drop}
+use lib.Seq.{drop-drop}
 use borrow.Author.Tests.{eq-eqb, ne-eqb}
 use Rattle.formula.specs.Refusals.{count}
 use Rattle.formula_scan.proofs.BracketCount.{count-next}
 use Rattle.table.specs.NumberField.{isEmpty}
 use Rattle.table.specs.Parts.{tab, before, after, afterTabs}
-
--- ---- one byte further
--- The first byte decides: it ends what stands before, or begins it.
-before-next : (b : ℕ) (l : List ℕ) (i : ℕ) → i < length l
-    → before b (drop i l) ≡ cond (eqb (getD l i 0) b) [] (getD l i 0 ∷ before b (drop (i + 1) l))
-unfolding before
-before-next b l i h = rw (drop-cons l i 0 h, add-one i)
-
-pub found-here : (b : ℕ) (l : List ℕ) (i : ℕ) → i < length l → getD l i 0 ≡ b → length (before b (drop i l)) ≡ 0
-found-here b l i h e = rw (before-next b l i h, eq-eqb (getD l i 0) b e)
-
-pub found-later : (b : ℕ) (l : List ℕ) (i : ℕ) → i < length l → (getD l i 0 ≡ b → ⊥)
-    → length (before b (drop i l)) ≡ suc (length (before b (drop (i + 1) l)))
-found-later b l i h other = rw (before-next b l i h, ne-eqb (getD l i 0) b other)
-
-pub found-nowhere : (b : ℕ) (l : List ℕ) (i : ℕ) → length l ≤ i → length (before b (drop i l)) ≡ 0
-unfolding before
-found-nowhere b l i h = ap (λ s. length (before b s)) (drop-of-length-le l h)
 
 -- ---- the parts by their lengths
 pub before-shorter : (b : ℕ) (s : List ℕ) → length (before b s) ≤ length s

@@ -1,25 +1,17 @@
 // Fields of a line of a job file: where they begin and end, how many there are, and whose field is taken.
 // What is judged of a line is in `table_fields::line_checks`; what a line prints, and how lines are found in the input, is in the crates above.
+use bytes::scan;
 ghost use mathlib.Core.Path.{_≡_};
 ghost use Prim.Native.Nat.{_+_, _≤_};
 ghost use lib.ListN.{length, drop};
 ghost use Rattle.table.specs.Parts.{before, afterTabs, field, fieldCount, picked};
 
-const TAB: u8 = 9;
-
 // The place of the first such byte at or after a place, or the length.
-pub fn find(bytes: &[u8], from: usize, byte: u8) -> usize
-    requires { ⌜ from ≤ length (now bytes) ⌝ }
-    ensures { λ r. ⌜ r ≡ from + length (before byte (drop from (now (bytes .entry)))) ⌝ }
+pub fn find(text: &[u8], from: usize, byte: u8) -> usize
+    requires { ⌜ from ≤ length (now text) ⌝ }
+    ensures { λ r. ⌜ r ≡ from + length (before byte (drop from (now (text .entry)))) ⌝ }
 {
-    let mut at = from;
-    while at < bytes.len() {
-        if bytes[at] == byte {
-            return at;
-        }
-        at += 1;
-    }
-    at
+    scan::find(text, from, text.len(), byte)
 }
 
 // The place behind the first n tabs, or the length.
@@ -30,7 +22,7 @@ fn field_start(line: &[u8], tabs: usize) -> usize
     let mut at = 0;
     let mut i = 0;
     while i < tabs {
-        let end = find(line, at, TAB);
+        let end = find(line, at, b'\t');
         if end == line.len() {
             return end;
         }
@@ -46,7 +38,7 @@ pub fn field<'a>(line: &'a [u8], n: usize) -> &'a [u8]
     ensures { λ r. ⌜ now r ≡ field n (now (line .entry)) ⌝ }
 {
     let from = field_start(line, n - 1);
-    let to = find(line, from, TAB);
+    let to = find(line, from, b'\t');
     &line[from..to]
 }
 
@@ -69,7 +61,7 @@ pub fn count_fields(line: &[u8]) -> usize
     let mut fields = 1;
     let mut i = 0;
     while i < line.len() {
-        if line[i] == TAB {
+        if line[i] == b'\t' {
             fields += 1;
         }
         i += 1;

@@ -25,10 +25,10 @@ pub fn write_decimal(out: &mut [u8], at: usize, n: u64) -> usize
     ensures { λ r. ⌜ Wrote (now (out .entry)) at (decimal n) r (now (out .exit)) ⌝ }
 {
     if n < 10 {
-        return write_byte(out, at, (48 + n) as u8);
+        return write_byte(out, at, b'0' + n as u8);
     }
     let next = write_decimal(out, at, n / 10);
-    write_byte(out, next, (48 + n % 10) as u8)
+    write_byte(out, next, b'0' + (n % 10) as u8)
 }
 
 // The answer where a field holds no number, or one that is too large.
@@ -51,20 +51,20 @@ fn may_begin(field: &[u8]) -> bool
     if field.len() == 1 {
         return true;
     }
-    49 <= field[0]
+    b'1' <= field[0]
 }
 
 // The number with one more digit at its end, if the byte is a digit and the number still small enough.
 fn pushed(value: u64, byte: u8, most: u64) -> FieldNumber
     ensures { λ r. ⌜ r ≡ oneMore most value byte ⌝ }
 {
-    if byte < 48 {
+    if byte < b'0' {
         return refused();
     }
-    if 57 < byte {
+    if b'9' < byte {
         return refused();
     }
-    let digit = (byte - 48) as u64;
+    let digit = (byte - b'0') as u64;
     if most < digit {
         return refused();
     }

@@ -9,17 +9,13 @@ ghost use Rattle.table_fields.specs.Writing.{Wrote};
 ghost use Rattle.table.specs.Parts.{tab};
 ghost use Rattle.table.specs.Lines.{threeNumbers, noLine, jobLine, pointLine, pointLines};
 
-const TAB: u8 = 9;
-
-const LINE_FEED: u8 = 10;
-
 // A number behind a tab.
 fn write_field(out: &mut [u8], at: usize, n: u64) -> usize
     requires { ⌜ at + 21 ≤ length (now out) ⌝ }
     ensures { λ r. ⌜ Wrote (now (out .entry)) at (tab ∷ decimal n) r (now (out .exit)) ⌝ }
     ensures { λ r. ⌜ r ≤ at + 21 ⌝ }
 {
-    let behind_tab = numerals::write_byte(out, at, TAB);
+    let behind_tab = numerals::write_byte(out, at, b'\t');
     numerals::write_decimal(out, behind_tab, n)
 }
 
@@ -32,7 +28,7 @@ fn write_numbers(out: &mut [u8], at: usize, a: u64, b: u64, c: u64) -> usize
     let behind_a = write_field(out, at, a);
     let behind_b = write_field(out, behind_a, b);
     let behind_c = write_field(out, behind_b, c);
-    numerals::write_byte(out, behind_c, LINE_FEED)
+    numerals::write_byte(out, behind_c, b'\n')
 }
 
 // "`no`, job number, refusal, place", from place 0 on.
@@ -40,8 +36,8 @@ pub fn write_no_line(out: &mut [u8], n: u64, refusal: u64, place: u64) -> usize
     requires { ⌜ 67 ≤ length (now out) ⌝ }
     ensures { λ r. ⌜ Wrote (now (out .entry)) 0 (noLine n refusal place) r (now (out .exit)) ⌝ }
 {
-    let second = numerals::write_byte(out, 0, 110);
-    let behind_word = numerals::write_byte(out, second, 111);
+    let second = numerals::write_byte(out, 0, b'n');
+    let behind_word = numerals::write_byte(out, second, b'o');
     write_numbers(out, behind_word, n, refusal, place)
 }
 
@@ -51,9 +47,9 @@ pub fn write_job_line(out: &mut [u8], n: u64, rows: u64, cost: u64) -> usize
     ensures { λ r. ⌜ Wrote (now (out .entry)) 0 (jobLine n rows cost) r (now (out .exit)) ⌝ }
     ensures { λ r. ⌜ r ≤ 67 ⌝ }
 {
-    let second = numerals::write_byte(out, 0, 106);
-    let third = numerals::write_byte(out, second, 111);
-    let behind_word = numerals::write_byte(out, third, 98);
+    let second = numerals::write_byte(out, 0, b'j');
+    let third = numerals::write_byte(out, second, b'o');
+    let behind_word = numerals::write_byte(out, third, b'b');
     write_numbers(out, behind_word, n, rows, cost)
 }
 
@@ -65,7 +61,7 @@ fn write_point(out: &mut [u8], at: usize, index: u64, value: u64) -> usize
 {
     let behind_index = numerals::write_decimal(out, at, index);
     let behind_value = write_field(out, behind_index, value);
-    numerals::write_byte(out, behind_value, LINE_FEED)
+    numerals::write_byte(out, behind_value, b'\n')
 }
 
 // A line for each word of a table, from index 0 on.

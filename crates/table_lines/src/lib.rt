@@ -14,24 +14,12 @@ ghost use Rattle.plan.specs.Measures.{planLength};
 ghost use Rattle.table_fields.specs.Writing.{Wrote};
 ghost use Rattle.table_progress.specs.Printed.{jobPrints};
 ghost use Rattle.table_progress.specs.Run.{theHeader, theDefaults, aJob, linePrints, endPrints};
-ghost use Rattle.table_progress.specs.Steps.{over, ended, awaitedBy, awaits, progressBy, progressAfter, defaultsAfter, planAfterLine, tableAfterLine};
+ghost use Rattle.table_progress.specs.Steps.{ended, awaitedBy, awaits, progressBy, progressAfter, defaultsAfter, planAfterLine, tableAfterLine};
 ghost use Rattle.table_progress.specs.declared.Awaited.the-variants.{Header, Defaults};
 
 const PLAN_WORDS: usize = 2561;
 
 const MOST_POINTS: usize = 4096;
-
-// The bytes at the beginning of a buffer.
-pub fn copy(from: &[u8], to: &mut [u8])
-    requires { ⌜ length (now from) ≤ length (now to) ⌝ }
-    ensures { λ _. ⌜ now (to .exit) ≡ over (now (from .entry)) (now (to .entry)) ⌝ }
-{
-    let mut i = 0;
-    while i < from.len() {
-        to[i] = from[i];
-        i += 1;
-    }
-}
 
 // No line is awaited any more.
 pub fn ended() -> Progress
@@ -85,7 +73,7 @@ fn end_defaults(line: &[u8], defaults: &mut [u8], out: &mut [u8]) -> LineDone
             wrote,
         };
     }
-    copy(line, defaults);
+    bytes::copy(line, defaults);
     LineDone {
         progress: Progress {
             awaited: Awaited::Job,

@@ -2,11 +2,10 @@
 use mathlib.Core.Path.{_≡_, refl, sym, ap, _∙_}
 use mathlib.Core.List.{List, _++_, append-assoc, append-nil}
 use Prim.Native.Nat.{ℕ, _+_, _-_, _≤_, _<_}
-use native.Mathlib.Nat.{zero-add, sub-zero}
-use native.Mathlib.Numerals.{add-one}
+use native.Mathlib.Nat.{sub-zero}
 use native.Mathlib.Omega.{arith}
-use lib.ListN.{length, getD, take, drop, set, length-append, length-take, length-drop, take-append-drop}
-use lib.Seq.{length-take-le, take-all, take-length, drop-length, drop-append-le, take-append-add, paste-suc}
+use lib.ListN.{length, take, drop, length-append, length-take, length-drop, take-append-drop}
+use lib.Seq.{length-take-le, take-all, take-length, drop-length, drop-append-le, take-append-add}
 use Rattle.plan.proofs.RowLaws.{part, partPut, part-put, tail-part}
 use Rattle.table_fields.specs.Writing.{Wrote}
 use Rattle.table_fields.proofs.Joining.{wrote-from-start}
@@ -30,26 +29,12 @@ pub rear-fits : (l : List ℕ) (at : ℕ) {s m : List ℕ} {r : ℕ} → at ≤ 
     → length m ≡ length (part at (length l) l) → at + r ≤ length l
 rear-fits l at h w same = omega (arith, wrote-fits w same, ap length (tail-part at l), length-drop at l)
 
--- ---- a copy of the first i bytes
-pub copied : ℕ → List ℕ → List ℕ → List ℕ
-copied i from to = take i from ++ drop i to
+-- ---- all bytes, copied as the kit's `bytes` says it
+abbrev pub copied : List ℕ → List ℕ → List ℕ
+copied from to = take (length from) from ++ drop (length from) to
 
-pub copied-none : (from to : List ℕ) → to ≡ copied 0 from to
-unfolding copied
-copied-none from to = refl
-
-pub copied-more : (from to : List ℕ) (i : ℕ) {s : List ℕ} → i < length from → length from ≤ length to → s ≡ copied i from to
-    → set s i (getD from i 0) ≡ copied (i + 1) from to
-unfolding copied
-copied-more from to i h k e =
-    ap (λ r. set r i (getD from i 0)) e
-    ∙ ap (λ n. set (take i from ++ drop n to) n (getD from i 0)) (sym (zero-add i))
-    ∙ paste-suc to 0 from i 0 (omega arith) h
-    ∙ rw (zero-add, add-one)
-
-pub copied-all : (from to : List ℕ) (i : ℕ) → i ≡ length from → copied i from to ≡ over from to
-unfolding copied
-copied-all from to i e = rw e (ap (λ s. s ++ drop (length from) to) (take-length from))
+pub copied-over : (from to : List ℕ) → copied from to ≡ over from to
+copied-over from to = ap (λ s. s ++ drop (length from) to) (take-length from)
 
 -- ---- bytes behind those that are held
 module _ (held : ℕ) (line more : List ℕ) where
@@ -65,10 +50,10 @@ module _ (held : ℕ) (line more : List ℕ) where
     size : length s ≡ length (part held end line)
     size = omega (arith, length-take-le (end - held) (drop held line) (omega (arith, length-drop held line)))
 
-    filled : over s (part held end line) ≡ s
-    filled = ap (λ n. s ++ drop n (part held end line)) size ∙ ap (λ r. s ++ r) (drop-length (part held end line)) ∙ append-nil s
+    filled : copied s (part held end line) ≡ s
+    filled = copied-over s (part held end line) ∙ ap (λ n. s ++ drop n (part held end line)) size ∙ ap (λ r. s ++ r) (drop-length (part held end line)) ∙ append-nil s
 
-    held-behind : {new : List ℕ} → heldWith held line more ≡ take held line ++ s → new ≡ over s (part held end line)
+    held-behind : {new : List ℕ} → heldWith held line more ≡ take held line ++ s → new ≡ copied s (part held end line)
         → Held end (partPut held end line new)
     held-behind so put = (
       sym at-hand ∙ sym (ap length so),
@@ -83,13 +68,13 @@ module _ (held : ℕ) (line more : List ℕ) where
     length-held = length-take-le held line (omega arith)
 
     -- All of the others may matter, or only as many as there is room for.
-    pub held-all : {new : List ℕ} → length more ≤ 4097 - held → new ≡ over more (part held (held + length more) line)
+    pub held-all : {new : List ℕ} → length more ≤ 4097 - held → new ≡ copied more (part held (held + length more) line)
         → Held (held + length more) (partPut held (held + length more) line new)
     held-all k put =
         held-behind more (held + length more) refl (omega arith)
         (take-all 4097 (take held line ++ more) (omega (arith, length-held, length-append (take held line) more))) put
 
-    pub held-some : {new : List ℕ} → 4097 - held < length more → new ≡ over (part 0 (4097 - held) more) (part held 4097 line)
+    pub held-some : {new : List ℕ} → 4097 - held < length more → new ≡ copied (part 0 (4097 - held) more) (part held 4097 line)
         → Held 4097 (partPut held 4097 line new)
     held-some k put = held-behind (part 0 (4097 - held) more) 4097 whole long (most ∙ rw (sub-zero (4097 - held))) put
       where

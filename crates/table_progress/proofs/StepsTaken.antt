@@ -21,12 +21,10 @@ use Rattle.table_progress.specs.declared.Stepped.{Stepped}
 use Rattle.table_progress.specs.Run.{linePrints, endPrints}
 use Rattle.table_progress.specs.Steps.{awaits, ended, Buffers, isReachable, ready, heldWith, over}
 use Rattle.table_progress.specs.Steps.{Outcome, refusedStep, lineStep, partStep, stepped, lastLine, withEnd, finished}
+use Rattle.table_progress.specs.Runs.{lent}
 use Rattle.table_progress.proofs.Holding.{Held, put-front, front-length, wrote-fits}
 use Rattle.table_progress.proofs.LinesEnded.{LineEnded}
 use Rattle.table_progress.proofs.Readiness.{Ready, hasRoom, is-ready, refused-step, refused-end}
-
-abbrev pub lent : (line defaults plan table out : List ℕ) → Buffers
-lent line defaults plan table out = record { line = line; defaults = defaults; plan = plan; table = table; out = out }
 
 -- ---- a test that is known picks one of two
 one-picked : (t : Bool) (x y : Outcome) → t ≡ true → x ≡ cond t x y

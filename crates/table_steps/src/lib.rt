@@ -10,9 +10,8 @@ ghost use mathlib.Core.Bool.{true, false};
 ghost use Prim.Native.Nat.{_+_, _-_, _^_, _≤_, _<_};
 ghost use lib.ListN.{length};
 ghost use Rattle.plan.specs.Measures.{planLength};
+ghost use Rattle.table_progress.specs.Runs.{lent};
 ghost use Rattle.table_progress.specs.Steps.{started, haveRoom, isReachable, mostPrinted, over, heldWith, stepped, lastLine, finished};
-
-const LINE_FEED: u8 = 10;
 
 // One byte more than a line may have.
 const HELD_AT_MOST: usize = 4097;
@@ -93,10 +92,10 @@ fn hold(line: &mut [u8], held: usize, more: &[u8]) -> usize
     let room = HELD_AT_MOST - held;
     if more.len() <= room {
         let end = held + more.len();
-        table_lines::copy(more, &mut line[held..end]);
+        bytes::copy(more, &mut line[held..end]);
         return end;
     }
-    table_lines::copy(&more[0..room], &mut line[held..HELD_AT_MOST]);
+    bytes::copy(&more[0..room], &mut line[held..HELD_AT_MOST]);
     HELD_AT_MOST
 }
 
@@ -111,20 +110,8 @@ pub fn step(
     table: &mut [u64],
     out: &mut [u8],
 ) -> Stepped
-    ensures { λ r. ⌜
-        record {
-          answer = r;
-          buffers = record {
-            line = now (line .exit);
-            defaults = now (defaults .exit);
-            plan = now (plan .exit);
-            table = now (table .exit);
-            out = now (out .exit);
-          };
-        }
-        ≡ stepped progress (now (input .entry))
-        (record { line = now (line .entry); defaults = now (defaults .entry); plan = now (plan .entry); table = now (table .entry); out = now (out .entry) })
-        ⌝ }
+    ensures { λ r. ⌜ record { answer = r; buffers = lent (now (line .exit)) (now (defaults .exit)) (now (plan .exit)) (now (table .exit)) (now (out .exit)) }
+        ≡ stepped progress (now (input .entry)) (lent (now (line .entry)) (now (defaults .entry)) (now (plan .entry)) (now (table .entry)) (now (out .entry))) ⌝ }
 {
     if !have_room(
         line.len(),
@@ -138,7 +125,7 @@ pub fn step(
     if !is_reachable(progress) {
         return refused(progress);
     }
-    let end = fields::find(input, 0, LINE_FEED);
+    let end = fields::find(input, 0, b'\n');
     let held = hold(line, progress.held, &input[0..end]);
     if end == input.len() {
         let awaited = progress.awaited;
@@ -181,20 +168,11 @@ fn last_line(
     requires { ⌜ planLength ≤ length (now plan) ⌝ }
     requires { ⌜ 4096 ≤ length (now table) ⌝ }
     requires { ⌜ mostPrinted ≤ length (now out) ⌝ }
-    ensures { λ r. ⌜
-        record {
-          answer = record { ok = true; progress = r .progress; used = 0; wrote = r .wrote };
-          buffers = record {
-            line = now (line .entry);
-            defaults = now (defaults .exit);
-            plan = now (plan .exit);
-            table = now (table .exit);
-            out = now (out .exit);
-          };
-        }
-        ≡ lastLine progress
-        (record { line = now (line .entry); defaults = now (defaults .entry); plan = now (plan .entry); table = now (table .entry); out = now (out .entry) })
-        ⌝ }
+    ensures { λ r. ⌜ record {
+      answer = record { ok = true; progress = r .progress; used = 0; wrote = r .wrote };
+      buffers = lent (now (line .entry)) (now (defaults .exit)) (now (plan .exit)) (now (table .exit)) (now (out .exit));
+    }
+        ≡ lastLine progress (lent (now (line .entry)) (now (defaults .entry)) (now (plan .entry)) (now (table .entry)) (now (out .entry))) ⌝ }
     ensures { λ r. ⌜ r .wrote + 67 ≤ length (now (out .entry)) ⌝ }
 {
     let held = progress.held;
@@ -221,20 +199,8 @@ pub fn finish(
     table: &mut [u64],
     out: &mut [u8],
 ) -> Stepped
-    ensures { λ r. ⌜
-        record {
-          answer = r;
-          buffers = record {
-            line = now (line .entry);
-            defaults = now (defaults .exit);
-            plan = now (plan .exit);
-            table = now (table .exit);
-            out = now (out .exit);
-          };
-        }
-        ≡ finished progress
-        (record { line = now (line .entry); defaults = now (defaults .entry); plan = now (plan .entry); table = now (table .entry); out = now (out .entry) })
-        ⌝ }
+    ensures { λ r. ⌜ record { answer = r; buffers = lent (now (line .entry)) (now (defaults .exit)) (now (plan .exit)) (now (table .exit)) (now (out .exit)) }
+        ≡ finished progress (lent (now (line .entry)) (now (defaults .entry)) (now (plan .entry)) (now (table .entry)) (now (out .entry))) ⌝ }
 {
     if !have_room(
         line.len(),

@@ -12,7 +12,7 @@ use borrow.Fn.Kinds.{In}
 use borrow.Fn.PlainCycle.{Measures, is, falls, and}
 use Rattle.formula_scan.specs.declared.Found.{Found}
 use Rattle.formula_scan.proofs.Ways.{got-odd, got-few, product-place, sum-place, got, atom-x, atom-number, atom-bracket, no-atom, power-lost, power-plain, power-literal, no-exponent, raise-lost, power-raise, factor-lost, factor-got, ProductSoFar, product-onward, product-starts, product-lost, product-joined, product-ends, product-goes-on, SumSoFar, sum-onward, sum-starts, sum-lost, sum-joined, sum-ends, sum-goes-on, bracket-lost, bracket-open, bracket-closed}
-use Rattle.formula_scan.specs.Readers.{finding}
+use Rattle.formula_scan.specs.Readers.{finding, withNode, put}
 use Rattle.formula_scan.proofs.Steps.{inside}
 use Rattle.formula_scan.proofs.Readings.{digit-test, no-digit-test}
 use Rattle.formula_readers.proofs.+read_atom+read_bracket+read_factor+read_power+read_product+read_sum.{statement}
@@ -41,7 +41,7 @@ use Rattle.formula_digits.proofs.read_number.Reads as read-number-reads
 use Rattle.formula_readers.proofs.after_minus_signs.Reads as after-minus-signs-reads
 use Rattle.formula_nodes.proofs.faults.base_fault.Reads as base-fault-reads
 use Rattle.formula_nodes.proofs.beyond.Reads as beyond-reads
-use Rattle.formula_nodes.proofs.either.Reads as either-reads
+use Rattle.formula_nodes.proofs.both.Reads as both-reads
 use Rattle.formula_readers.proofs.is_sign.Reads as is-sign-reads
 use Rattle.formula_nodes.proofs.joined_product.Reads as joined-product-reads
 use Rattle.formula_nodes.proofs.joined_sum.Reads as joined-sum-reads
@@ -157,8 +157,8 @@ read-atom-same-length t c = search needs
 read-atom-returns : (t : ℕ) → read-atom-lts.Need-returns (read-atom-claims t) (read-atom-at t) read-atom.Post
 read-atom-returns t c = atom-bracket (c .before .before .before .before .before .before .before .before .args .text .now) (c .before .before .before .before .before .before .before .before .args .at) (c .before .before .before .before .before .before .before .before .args .nodes) (c .before .before .before .before .before .before .before .before .args .fault) _ _ _ (sym (c .before .before .before .before .before .byte-at .ensures) ∙ (c .before .before .before .before .if1 .taken)) (c .before .before .read-bracket .ensures)
 
-read-atom-add-noted : (t : ℕ) → read-atom-lts.Need-add-noted (read-atom-claims t) (read-atom-at t) read-atom.Post
-read-atom-add-noted t c = omega (arith, (c .before .before .before .before .before .before .pre .1 .0), (c .before .before .before .before .before .before .good .0 .0))
+read-atom-add-end : (t : ℕ) → read-atom-lts.Need-add-end (read-atom-claims t) (read-atom-at t) read-atom.Post
+read-atom-add-end t c = omega (arith, (c .before .before .before .before .before .pre .1 .0), (c .before .before .before .before .before .good .0 .0))
 
 read-atom-noted-requires : (t : ℕ) → read-atom-lts.Need-noted-requires (read-atom-claims t) (read-atom-at t) read-atom.Post
 read-atom-noted-requires t c κs = omega (arith, (c .before .before .before .before .before .before .pre .1 .0), (c .before .before .before .before .before .before .pre .1 .1 .0), (c .before .before .before .before .before .before .good .0 .1))
@@ -204,6 +204,8 @@ read-bracket-claims t = (
   stopped-reads.Learnt,
   byte-at-reads.Asked,
   byte-at-reads.Learnt,
+  beyond-reads.Asked,
+  beyond-reads.Learnt,
 )
 
 read-bracket-add-read-sum : (t : ℕ) → read-bracket-lts.Need-add-read-sum (read-bracket-claims t) (read-bracket-at t) read-bracket.Post
@@ -233,14 +235,14 @@ read-bracket-same-length-2 t c = search needs
 read-bracket-returns-2 : (t : ℕ) → read-bracket-lts.Need-returns-2 (read-bracket-claims t) (read-bracket-at t) read-bracket.Post
 read-bracket-returns-2 t c = bracket-open (c .before .before .before .before .before .before .before .before .before .before .before .args .text .now) (c .before .before .before .before .before .before .before .before .before .before .before .args .at) (c .before .before .before .before .before .before .before .before .before .before .before .args .nodes) (c .before .before .before .before .before .before .before .before .before .before .before .args .fault) _ (c .before .before .before .before .before .before .before .read-sum .result) _ (got (c .before .before .before .before .before .before .before .read-sum .ensures) (not-false _ (c .before .before .before .if1 .left))) (λ e. (c .before .if2 .taken) ((c .before .before .byte-at .ensures) ∙ e)) _ (c .stopped2 .ensures)
 
-read-bracket-add-t10 : (t : ℕ) → read-bracket-lts.Need-add-t10 (read-bracket-claims t) (read-bracket-at t) read-bracket.Post
-read-bracket-add-t10 t c = omega (arith, (c .before .before .before .before .before .before .before .before .before .before .good .0 .0), got (c .before .before .before .before .before .before .read-sum .ensures) (not-false _ (c .before .before .if1 .left)) .inside)
+read-bracket-beyond-requires : (t : ℕ) → read-bracket-lts.Need-beyond-requires (read-bracket-claims t) (read-bracket-at t) read-bracket.Post
+read-bracket-beyond-requires t c κs = omega (arith, (c .before .before .before .before .before .before .before .before .before .before .good .0 .0), got (c .before .before .before .before .before .before .read-sum .ensures) (not-false _ (c .before .before .if1 .left)) .inside)
 
 read-bracket-same-length-3 : (t : ℕ) → read-bracket-lts.Need-same-length-3 (read-bracket-claims t) (read-bracket-at t) read-bracket.Post
 read-bracket-same-length-3 t c = search needs
 
 read-bracket-returns-3 : (t : ℕ) → read-bracket-lts.Need-returns-3 (read-bracket-claims t) (read-bracket-at t) read-bracket.Post
-read-bracket-returns-3 t c = bracket-closed (c .before .before .before .before .before .before .before .before .before .before .args .text .now) (c .before .before .before .before .before .before .before .before .before .before .args .at) (c .before .before .before .before .before .before .before .before .before .before .args .nodes) (c .before .before .before .before .before .before .before .before .before .before .args .fault) _ (c .before .before .before .before .before .before .read-sum .result) _ (got (c .before .before .before .before .before .before .read-sum .ensures) (not-false _ (c .before .before .if1 .left))) (sym (c .before .byte-at .ensures) ∙ (c .if2 .left)) _ refl
+read-bracket-returns-3 t c = bracket-closed (c .before .before .before .before .before .before .before .before .before .before .before .args .text .now) (c .before .before .before .before .before .before .before .before .before .before .before .args .at) (c .before .before .before .before .before .before .before .before .before .before .before .args .nodes) (c .before .before .before .before .before .before .before .before .before .before .before .args .fault) _ (c .before .before .before .before .before .before .before .read-sum .result) _ (got (c .before .before .before .before .before .before .before .read-sum .ensures) (not-false _ (c .before .before .before .if1 .left))) (sym (c .before .before .byte-at .ensures) ∙ (c .before .if2 .left)) _ (c .beyond .ensures)
 
 abbrev read-factor-claims : ℕ → read-factor-lts.Claims
 read-factor-claims t = (
@@ -296,8 +298,8 @@ read-power-claims t = (
   lesser-reads.Learnt,
   read-bracket-below t,
   read-bracket.Post,
-  either-reads.Asked,
-  either-reads.Learnt,
+  both-reads.Asked,
+  both-reads.Learnt,
   noted-reads.Asked,
   noted-reads.Learnt,
 )
@@ -365,17 +367,17 @@ read-power-same-length-5 t c = search needs
 read-power-returns-5 : (t : ℕ) → read-power-lts.Need-returns-5 (read-power-claims t) (read-power-at t) read-power.Post
 read-power-returns-5 t c = raise-lost (c .before .before .before .before .before .before .before .before .before .before .before .before .before .before .before .before .before .before .before .before .before .before .args .text .now) (c .before .before .before .before .before .before .before .before .before .before .before .before .before .before .before .before .before .before .before .before .before .before .args .at) (c .before .before .before .before .before .before .before .before .before .before .before .before .before .before .before .before .before .before .before .before .before .before .args .nodes) (c .before .before .before .before .before .before .before .before .before .before .before .before .before .before .before .before .before .before .before .before .before .before .args .fault) _ (c .before .before .before .before .before .before .before .before .before .before .before .before .before .before .before .before .before .before .read-atom .result) _ (got (c .before .before .before .before .before .before .before .before .before .before .before .before .before .before .before .before .before .before .read-atom .ensures) (not-false _ (c .before .before .before .before .before .before .before .before .before .before .before .before .before .before .if1 .left))) (sym (c .before .before .before .before .before .before .before .before .before .before .before .before .before .byte-at .ensures) ∙ (c .before .before .before .before .before .before .before .before .before .before .before .before .if2 .left)) (sym (c .before .before .before .before .before .before .before .before .before .before .before .byte-at2 .ensures) ∙ (c .before .before .before .before .before .before .before .before .if4 .left)) _ ((c .before .before .before .before .before .before .lesser .ensures) ∙ ap (λ g. min (c .before .before .before .before .before .before .before .before .before .before .before .before .before .before .before .before .before .before .read-atom .result .fault) g) (c .before .before .before .before .before .before .before .base-fault .ensures)) _ _ (c .before .before .before .before .read-bracket .ensures) (not-true _ (c .if5 .taken))
 
-read-power-either-requires : (t : ℕ) → read-power-lts.Need-either-requires (read-power-claims t) (read-power-at t) read-power.Post
-read-power-either-requires t c κs = search needs
+read-power-both-requires : (t : ℕ) → read-power-lts.Need-both-requires (read-power-claims t) (read-power-at t) read-power.Post
+read-power-both-requires t c κs = search needs
 
 read-power-noted-requires : (t : ℕ) → read-power-lts.Need-noted-requires (read-power-claims t) (read-power-at t) read-power.Post
-read-power-noted-requires t c κs = let base = got (c .before .before .before .before .before .before .before .before .before .before .before .before .before .before .before .before .before .before .before .before .read-atom .ensures) (not-false _ (c .before .before .before .before .before .before .before .before .before .before .before .before .before .before .before .before .if1 .left)) in let power = got (c .before .before .before .before .before .before .read-bracket .ensures) (not-false _ (c .before .before .if5 .left)) in omega (arith, base .counted, base .room, power .counted, power .room, power .inside, (c .before .before .before .before .before .before .before .before .before .before .before .before .before .before .before .before .before .before .before .before .before .before .before .before .pre .1 .1 .0), (c .before .before .before .before .before .before .before .before .before .before .before .before .before .before .before .before .before .before .before .before .before .before .before .before .good .0 .1))
+read-power-noted-requires t c κs = let base = got (c .before .before .before .before .before .before .before .before .before .before .before .before .before .before .before .before .before .before .before .before .read-atom .ensures) (not-false _ (c .before .before .before .before .before .before .before .before .before .before .before .before .before .before .before .before .if1 .left)) in let power = got (c .before .before .before .before .before .before .read-bracket .ensures) (not-false _ (c .before .before .if5 .left)) in omega (arith, ap (λ (f : Found). f .nodes) (c .both .ensures), base .counted, base .room, power .counted, power .room, power .inside, (c .before .before .before .before .before .before .before .before .before .before .before .before .before .before .before .before .before .before .before .before .before .before .before .before .pre .1 .1 .0), (c .before .before .before .before .before .before .before .before .before .before .before .before .before .before .before .before .before .before .before .before .before .before .before .before .good .0 .1))
 
 read-power-same-length-6 : (t : ℕ) → read-power-lts.Need-same-length-6 (read-power-claims t) (read-power-at t) read-power.Post
 read-power-same-length-6 t c = (c .before .before .noted .kept .0) ∙ (c .before .before .before .before .before .before .before .before .before .read-bracket .kept .1 .0) ∙ (c .before .before .before .before .before .before .before .before .before .before .before .before .before .before .before .before .before .before .before .before .before .before .before .read-atom .kept .1 .0)
 
 read-power-returns-6 : (t : ℕ) → read-power-lts.Need-returns-6 (read-power-claims t) (read-power-at t) read-power.Post
-read-power-returns-6 t c = power-raise (c .before .before .before .before .before .before .before .before .before .before .before .before .before .before .before .before .before .before .before .before .before .before .before .before .before .before .before .args .text .now) (c .before .before .before .before .before .before .before .before .before .before .before .before .before .before .before .before .before .before .before .before .before .before .before .before .before .before .before .args .at) (c .before .before .before .before .before .before .before .before .before .before .before .before .before .before .before .before .before .before .before .before .before .before .before .before .before .before .before .args .nodes) (c .before .before .before .before .before .before .before .before .before .before .before .before .before .before .before .before .before .before .before .before .before .before .before .before .before .before .before .args .fault) _ (c .before .before .before .before .before .before .before .before .before .before .before .before .before .before .before .before .before .before .before .before .before .before .before .read-atom .result) _ (got (c .before .before .before .before .before .before .before .before .before .before .before .before .before .before .before .before .before .before .before .before .before .before .before .read-atom .ensures) (not-false _ (c .before .before .before .before .before .before .before .before .before .before .before .before .before .before .before .before .before .before .before .if1 .left))) (sym (c .before .before .before .before .before .before .before .before .before .before .before .before .before .before .before .before .before .before .byte-at .ensures) ∙ (c .before .before .before .before .before .before .before .before .before .before .before .before .before .before .before .before .before .if2 .left)) (sym (c .before .before .before .before .before .before .before .before .before .before .before .before .before .before .before .before .byte-at2 .ensures) ∙ (c .before .before .before .before .before .before .before .before .before .before .before .before .before .if4 .left)) _ ((c .before .before .before .before .before .before .before .before .before .before .before .lesser .ensures) ∙ ap (λ g. min (c .before .before .before .before .before .before .before .before .before .before .before .before .before .before .before .before .before .before .before .before .before .before .before .read-atom .result .fault) g) (c .before .before .before .before .before .before .before .before .before .before .before .before .base-fault .ensures)) (c .before .before .before .before .before .before .before .before .before .read-bracket .result) _ (c .before .before .before .before .before .before .before .before .before .read-bracket .ensures) (not-false _ (c .before .before .before .before .before .if5 .left)) _ _ ((c .before .before .noted .ensures .0) ∙ ap (λ b. finding b 1 (c .before .before .before .before .before .before .before .before .before .read-bracket .result .at) ((c .before .before .before .before .before .before .before .before .before .read-bracket .result .nodes) + 1) (c .before .before .before .before .before .before .before .before .before .read-bracket .result .fault)) (c .before .before .before .either .ensures)) (c .before .before .noted .ensures .1)
+read-power-returns-6 t c = power-raise (c .before .before .before .before .before .before .before .before .before .before .before .before .before .before .before .before .before .before .before .before .before .before .before .before .before .before .before .args .text .now) (c .before .before .before .before .before .before .before .before .before .before .before .before .before .before .before .before .before .before .before .before .before .before .before .before .before .before .before .args .at) (c .before .before .before .before .before .before .before .before .before .before .before .before .before .before .before .before .before .before .before .before .before .before .before .before .before .before .before .args .nodes) (c .before .before .before .before .before .before .before .before .before .before .before .before .before .before .before .before .before .before .before .before .before .before .before .before .before .before .before .args .fault) _ (c .before .before .before .before .before .before .before .before .before .before .before .before .before .before .before .before .before .before .before .before .before .before .before .read-atom .result) _ (got (c .before .before .before .before .before .before .before .before .before .before .before .before .before .before .before .before .before .before .before .before .before .before .before .read-atom .ensures) (not-false _ (c .before .before .before .before .before .before .before .before .before .before .before .before .before .before .before .before .before .before .before .if1 .left))) (sym (c .before .before .before .before .before .before .before .before .before .before .before .before .before .before .before .before .before .before .byte-at .ensures) ∙ (c .before .before .before .before .before .before .before .before .before .before .before .before .before .before .before .before .before .if2 .left)) (sym (c .before .before .before .before .before .before .before .before .before .before .before .before .before .before .before .before .byte-at2 .ensures) ∙ (c .before .before .before .before .before .before .before .before .before .before .before .before .before .if4 .left)) _ ((c .before .before .before .before .before .before .before .before .before .before .before .lesser .ensures) ∙ ap (λ g. min (c .before .before .before .before .before .before .before .before .before .before .before .before .before .before .before .before .before .before .before .before .before .before .before .read-atom .result .fault) g) (c .before .before .before .before .before .before .before .before .before .before .before .before .base-fault .ensures)) (c .before .before .before .before .before .before .before .before .before .read-bracket .result) _ (c .before .before .before .before .before .before .before .before .before .read-bracket .ensures) (not-false _ (c .before .before .before .before .before .if5 .left)) _ _ (c .before .before .noted .ensures .0 ∙ ap withNode (c .before .before .before .both .ensures)) (c .before .before .noted .ensures .1 ∙ ap (λ (f : Found). put (c .before .before .before .before .before .before .before .before .before .read-bracket .last .1 .0) (f .nodes) 8 0) (c .before .before .before .both .ensures))
 
 abbrev read-product-Inv-loop : read-product-lts.InvT-loop
 read-product-Inv-loop text tree₀ at nodes fault left₀ joined₀ tree left joined = (ProductSoFar text at nodes fault tree₀ left joined tree) × (length tree ≡ length tree₀)
@@ -504,31 +506,14 @@ pub +read-atom+read-bracket+read-factor+read-power+read-product+read-sum-spec :
     μ-read-power
     μ-read-product
     μ-read-sum
-    (λ t. read-atom-lts.spec (
-      byte-at-reads.Asked,
-      byte-at-reads.Learnt,
-      read-bracket-below t,
-      read-bracket.Post,
-      noted-reads.Asked,
-      noted-reads.Learnt,
-      is-digit-reads.Asked,
-      is-digit-reads.Learnt,
-      stopped-reads.Asked,
-      stopped-reads.Learnt,
-      read-number-reads.Asked,
-      read-number-reads.Learnt,
-      number-fault-reads.Asked,
-      number-fault-reads.Learnt,
-      lesser-reads.Asked,
-      lesser-reads.Learnt,
-    )
+    (λ t. read-atom-lts.spec (read-atom-claims t)
     (read-atom-at t)
     read-atom.Post
     (read-atom-byte-at-requires t)
     (read-atom-read-bracket-requires t)
     (read-atom-same-length t)
     (read-atom-returns t)
-    (read-atom-add-noted t)
+    (read-atom-add-end t)
     (read-atom-noted-requires t)
     (read-atom-same-length-2 t)
     (read-atom-returns-2 t)
@@ -541,14 +526,7 @@ pub +read-atom+read-bracket+read-factor+read-power+read-product+read-sum-spec :
     (read-atom-noted-requires-2 t)
     (read-atom-same-length-3 t)
     (read-atom-returns-4 t))
-    (λ t. read-bracket-lts.spec (
-      read-sum-below t,
-      read-sum.Post,
-      stopped-reads.Asked,
-      stopped-reads.Learnt,
-      byte-at-reads.Asked,
-      byte-at-reads.Learnt,
-    )
+    (λ t. read-bracket-lts.spec (read-bracket-claims t)
     (read-bracket-at t)
     read-bracket.Post
     (read-bracket-add-read-sum t)
@@ -560,17 +538,10 @@ pub +read-atom+read-bracket+read-factor+read-power+read-product+read-sum-spec :
     (read-bracket-stopped-requires-2 t)
     (read-bracket-same-length-2 t)
     (read-bracket-returns-2 t)
-    (read-bracket-add-t10 t)
+    (read-bracket-beyond-requires t)
     (read-bracket-same-length-3 t)
     (read-bracket-returns-3 t))
-    (λ t. read-factor-lts.spec (
-      after-minus-signs-reads.Asked,
-      after-minus-signs-reads.Learnt,
-      read-power-below t,
-      read-power.Post,
-      negated-reads.Asked,
-      negated-reads.Learnt,
-    )
+    (λ t. read-factor-lts.spec (read-factor-claims t)
     (read-factor-at t)
     read-factor.Post
     (read-factor-after-minus-signs-requires t)
@@ -581,30 +552,7 @@ pub +read-atom+read-bracket+read-factor+read-power+read-product+read-sum-spec :
     (read-factor-negated-requires t)
     (read-factor-same-length-2 t)
     (read-factor-returns-2 t))
-    (λ t. read-power-lts.spec (
-      read-atom-below t,
-      read-atom.Post,
-      byte-at-reads.Asked,
-      byte-at-reads.Learnt,
-      is-digit-reads.Asked,
-      is-digit-reads.Learnt,
-      read-number-reads.Asked,
-      read-number-reads.Learnt,
-      literal-power-reads.Asked,
-      literal-power-reads.Learnt,
-      stopped-reads.Asked,
-      stopped-reads.Learnt,
-      base-fault-reads.Asked,
-      base-fault-reads.Learnt,
-      lesser-reads.Asked,
-      lesser-reads.Learnt,
-      read-bracket-below t,
-      read-bracket.Post,
-      either-reads.Asked,
-      either-reads.Learnt,
-      noted-reads.Asked,
-      noted-reads.Learnt,
-    )
+    (λ t. read-power-lts.spec (read-power-claims t)
     (read-power-at t)
     read-power.Post
     (read-power-read-atom-requires t)
@@ -628,22 +576,11 @@ pub +read-atom+read-bracket+read-factor+read-power+read-product+read-sum-spec :
     (read-power-read-bracket-requires t)
     (read-power-same-length-5 t)
     (read-power-returns-5 t)
-    (read-power-either-requires t)
+    (read-power-both-requires t)
     (read-power-noted-requires t)
     (read-power-same-length-6 t)
     (read-power-returns-6 t))
-    (λ t. read-product-lts.spec (
-      starting-reads.Asked,
-      starting-reads.Learnt,
-      read-factor-below t,
-      read-factor.Post,
-      joined-product-reads.Asked,
-      joined-product-reads.Learnt,
-      byte-at-reads.Asked,
-      byte-at-reads.Learnt,
-      beyond-reads.Asked,
-      beyond-reads.Learnt,
-    )
+    (λ t. read-product-lts.spec (read-product-claims t)
     (read-product-at t)
     read-product.Post
     read-product-Inv-loop
@@ -660,20 +597,7 @@ pub +read-atom+read-bracket+read-factor+read-power+read-product+read-sum-spec :
     (read-product-beyond-requires t)
     (read-product-loop-less t)
     (read-product-loop-again t))
-    λ t. read-sum-lts.spec (
-      starting-reads.Asked,
-      starting-reads.Learnt,
-      read-product-below t,
-      read-product.Post,
-      joined-sum-reads.Asked,
-      joined-sum-reads.Learnt,
-      byte-at-reads.Asked,
-      byte-at-reads.Learnt,
-      is-sign-reads.Asked,
-      is-sign-reads.Learnt,
-      beyond-reads.Asked,
-      beyond-reads.Learnt,
-    )
+    λ t. read-sum-lts.spec (read-sum-claims t)
     (read-sum-at t)
     read-sum.Post
     read-sum-Inv-loop

@@ -1,7 +1,9 @@
 -- `end_defaults` keeps the defaults line, or ends the run.
+use mathlib.Core.Path.{_∙_}
 use native.Mathlib.Omega.{arith}
 use borrow.Author.Needs.{needs}
 use borrow.Author.Tests.{not-true, not-false}
+use Rattle.table_progress.proofs.Holding.{copied-over}
 use Rattle.table_progress.proofs.LinesEnded.{defaults-refused, defaults-taken, defaults-short}
 use Rattle.table_lines.proofs.end_defaults.Statement.{statement}
 use Rattle.table_lines.proofs.end_defaults.Tie as tie
@@ -38,7 +40,7 @@ returns-2 c =
     let args = c .before .before .before .before .before .before .before .before .before .before .args in
     let judged = c .before .before .before .before .before .before .judge-defaults in
     defaults-taken (args .line .now) (args .defaults .now) (args .out .now) (judged .result) (judged .ensures)
-    (not-false _ (c .before .before .before .before .if1 .left)) (c .before .before .copy .ensures)
+    (not-false _ (c .before .before .before .before .if1 .left)) (c .before .before .copy .ensures .1 ∙ copied-over (args .line .now) (args .defaults .now))
 
 pub end-defaults-spec : {M : Type 1} → statement M
 end-defaults-spec =

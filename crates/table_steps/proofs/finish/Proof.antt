@@ -3,7 +3,8 @@ use mathlib.Core.List.{[]}
 use native.Mathlib.Omega.{arith}
 use borrow.Author.Needs.{needs}
 use Rattle.table_progress.proofs.Holding.{rear-fits}
-use Rattle.table_progress.proofs.StepsTaken.{lent, no-room, not-reachable, accepted, end-refused, end-done}
+use Rattle.table_progress.specs.Runs.{lent}
+use Rattle.table_progress.proofs.StepsTaken.{no-room, not-reachable, accepted, end-refused, end-done}
 use Rattle.table_steps.proofs.finish.Statement.{statement}
 use Rattle.table_steps.proofs.finish.Tie as tie
 

@@ -29,7 +29,7 @@ same-length c = search needs
 returns : tie.Need-returns
 returns c =
     let args = c .before .before .before .before .before .before .before .args in
-    held-all (args .held) (args .line .now) (args .more .now) (omega arith) (omega arith) (omega arith) (c .before .before .copy .ensures)
+    held-all (args .held) (args .line .now) (args .more .now) (omega arith) (omega arith) (omega arith) (c .before .before .copy .ensures .1)
 
 sub-copy-2 : tie.Need-sub-copy-2
 sub-copy-2 c = search needs
@@ -58,7 +58,7 @@ same-length-2 c = search needs
 returns-2 : tie.Need-returns-2
 returns-2 c =
     let args = c .before .before .before .before .before .before .before .before .args in
-    held-some (args .held) (args .line .now) (args .more .now) (omega arith) (omega arith) (omega arith) (c .before .before .copy2 .ensures)
+    held-some (args .held) (args .line .now) (args .more .now) (omega arith) (omega arith) (omega arith) (c .before .before .copy2 .ensures .1)
 
 pub hold-spec : {M : Type 1} → statement M
 hold-spec =

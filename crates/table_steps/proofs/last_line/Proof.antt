@@ -3,7 +3,8 @@ use Prim.Native.Nat.{_-_}
 use native.Mathlib.Omega.{arith}
 use lib.ListN.{length}
 use borrow.Author.Needs.{needs}
-use Rattle.table_progress.proofs.StepsTaken.{lent, last-none, last-fits, last-some}
+use Rattle.table_progress.specs.Runs.{lent}
+use Rattle.table_progress.proofs.StepsTaken.{last-none, last-fits, last-some}
 use Rattle.table_steps.proofs.last_line.Statement.{statement}
 use Rattle.table_steps.proofs.last_line.Tie as tie
 

@@ -3,7 +3,8 @@ use native.Mathlib.Omega.{arith}
 use borrow.Author.Needs.{needs}
 use Rattle.table.proofs.PartsFound.{found-inside}
 use Rattle.table_progress.proofs.Holding.{held-at-most}
-use Rattle.table_progress.proofs.StepsTaken.{lent, no-room, not-reachable, accepted, step-refused, step-within-line, step-whole-line}
+use Rattle.table_progress.specs.Runs.{lent}
+use Rattle.table_progress.proofs.StepsTaken.{no-room, not-reachable, accepted, step-refused, step-within-line, step-whole-line}
 use Rattle.table_steps.proofs.step.Statement.{statement}
 use Rattle.table_steps.proofs.step.Tie as tie
 

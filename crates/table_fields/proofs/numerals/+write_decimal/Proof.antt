@@ -28,11 +28,11 @@ write-decimal-below t =
 abbrev claims : ℕ → write-decimal-lts.Claims
 claims t = (write-byte-reads.Asked, write-byte-reads.Learnt, write-decimal-below t, write-decimal.Post)
 
-write-decimal-add-write-byte : (t : ℕ) → write-decimal-lts.Need-add-write-byte (claims t) (write-decimal-at t) write-decimal.Post
-write-decimal-add-write-byte t c = omega arith
-
 write-decimal-cast-write-byte : (t : ℕ) → write-decimal-lts.Need-cast-write-byte (claims t) (write-decimal-at t) write-decimal.Post
 write-decimal-cast-write-byte t c = omega arith
+
+write-decimal-add-write-byte : (t : ℕ) → write-decimal-lts.Need-add-write-byte (claims t) (write-decimal-at t) write-decimal.Post
+write-decimal-add-write-byte t c = omega arith
 
 write-decimal-write-byte-requires : (t : ℕ) → write-decimal-lts.Need-write-byte-requires (claims t) (write-decimal-at t) write-decimal.Post
 write-decimal-write-byte-requires t c κs =
@@ -52,11 +52,11 @@ write-decimal-write-decimal-requires t c κs =
     let start = c .before .before .before .args in
     (omega arith, omega (arith, length-last-digit (start .n) (omega arith)))
 
-write-decimal-add-write-byte-2 : (t : ℕ) → write-decimal-lts.Need-add-write-byte-2 (claims t) (write-decimal-at t) write-decimal.Post
-write-decimal-add-write-byte-2 t c = omega arith
-
 write-decimal-cast-write-byte-2 : (t : ℕ) → write-decimal-lts.Need-cast-write-byte-2 (claims t) (write-decimal-at t) write-decimal.Post
 write-decimal-cast-write-byte-2 t c = omega arith
+
+write-decimal-add-write-byte-2 : (t : ℕ) → write-decimal-lts.Need-add-write-byte-2 (claims t) (write-decimal-at t) write-decimal.Post
+write-decimal-add-write-byte-2 t c = omega arith
 
 write-decimal-write-byte-requires-2 : (t : ℕ) → write-decimal-lts.Need-write-byte-requires-2 (claims t) (write-decimal-at t) write-decimal.Post
 write-decimal-write-byte-requires-2 t c κs =
@@ -77,14 +77,14 @@ pub +write-decimal-spec : {M : Type 1} → statement M
 +write-decimal-spec = close μ-write-decimal λ t. write-decimal-lts.spec (claims t)
     (write-decimal-at t)
     write-decimal.Post
-    (write-decimal-add-write-byte t)
     (write-decimal-cast-write-byte t)
+    (write-decimal-add-write-byte t)
     (write-decimal-write-byte-requires t)
     (write-decimal-same-length t)
     (write-decimal-returns t)
     (write-decimal-write-decimal-requires t)
-    (write-decimal-add-write-byte-2 t)
     (write-decimal-cast-write-byte-2 t)
+    (write-decimal-add-write-byte-2 t)
     (write-decimal-write-byte-requires-2 t)
     (write-decimal-same-length-2 t)
     (write-decimal-returns-2 t)
