@@ -4,3 +4,4 @@ pub mod Run
 pub mod Steps
 pub mod Runs
 pub mod Printed
+pub mod Examples
