@@ -10,7 +10,7 @@ ghost use mathlib.Core.Bool.{true, false};
 ghost use Prim.Native.Nat.{_+_, _-_, _^_, _≤_, _<_};
 ghost use lib.ListN.{length};
 ghost use Rattle.plan.specs.Measures.{planLength};
-ghost use Rattle.table_progress.specs.Steps.{started, haveRoom, isReachable, mostPrinted, over, heldWith, stepped, lastLine, finished};
+ghost use Rattle.table_progress.specs.Steps.{started, haveRoom, isWithinBounds, mostPrinted, over, heldWith, stepped, lastLine, finished};
 
 const LINE_FEED: u8 = 10;
 
@@ -59,9 +59,9 @@ fn have_room(line: usize, defaults: usize, plan: usize, table: usize, out: usize
     MOST_PRINTED <= out
 }
 
-// A run can have come so far.
-fn is_reachable(progress: Progress) -> bool
-    ensures { λ r. ⌜ r ≡ isReachable progress ⌝ }
+// The bounds that a call asks of a progress; whether a run comes to it is not asked.
+fn is_within_bounds(progress: Progress) -> bool
+    ensures { λ r. ⌜ r ≡ isWithinBounds progress ⌝ }
 {
     if HELD_AT_MOST < progress.held {
         return false;
@@ -135,7 +135,7 @@ pub fn step(
     ) {
         return refused(progress);
     }
-    if !is_reachable(progress) {
+    if !is_within_bounds(progress) {
         return refused(progress);
     }
     let end = fields::find(input, 0, LINE_FEED);
@@ -245,7 +245,7 @@ pub fn finish(
     ) {
         return refused(progress);
     }
-    if !is_reachable(progress) {
+    if !is_within_bounds(progress) {
         return refused(progress);
     }
     let done = last_line(progress, line, defaults, plan, table, out);
