@@ -15,7 +15,7 @@ use Rattle.formula.specs.Tree.{Tree}
 use Rattle.fold.specs.Folded.{Folded, constant, ofSum, trimmedSum}
 use Rattle.fold.specs.Folding.{fold, foldMinus, foldPower}
 use Rattle.fold.specs.Layout.{rowCount}
-use Rattle.fold.specs.Shape.{WellFormed}
+use Rattle.fold.proofs.Shape.{WellFormed}
 use Rattle.fold.proofs.FoldShape.{minus-rows, power-rows, sum-rows, difference-rows, product-rows, raise-rows}
 use Rattle.fold_rows.specs.Standing.{placed}
 use Rattle.fold_operands.specs.Operands.{Operand, Operands, One, Two, Left, Folds, FoldsBoth}

@@ -11,7 +11,7 @@ use Rattle.formula.specs.Tree.{Tree}
 use Rattle.fold.specs.Folded.{Folded}
 use Rattle.fold.specs.Folding.{fold}
 use Rattle.fold.specs.Layout.{rowCount, rowsFrom, wordsOf}
-use Rattle.fold.specs.Shape.{WellFormed}
+use Rattle.fold.proofs.Shape.{WellFormed}
 use Rattle.fold.proofs.FoldShape.{fold-rows}
 use Rattle.fold_rows.specs.Standing.{Stands}
 use Rattle.fold_rows.proofs.Stood.{length-words, words-later, placed-stands, placed-before}

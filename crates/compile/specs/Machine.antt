@@ -13,7 +13,7 @@ use Rattle.formula.specs.Words.{treeWords, treeLength, mostNodes}
 use Rattle.fold.specs.Folded.{Folded}
 use Rattle.fold.specs.Folding.{fold, foldSum, foldDifference, foldProduct, foldRaise}
 use Rattle.fold.specs.Layout.{rowCount, rowsFrom, wordsOf}
-use Rattle.fold.specs.Shape.{WellFormed}
+use Rattle.fold.proofs.Shape.{WellFormed}
 use Rattle.fold_operands.specs.Operands.{Operand, One}
 
 -- The tree stands in the last words of the plan's own, its nodes behind the node count.

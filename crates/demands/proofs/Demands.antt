@@ -303,22 +303,23 @@ coefficients-right a h =
 
 -- ---- the probe, for every reading and every tolerance that is not refused
 module _ (reading expected tolerance : ℕ) (fits : tolerance < 2 ^ 63) where
-  abbrev probed : ProbeAnswer
-  probed = probeAnswer reading expected tolerance
-
   -- "Every reading is judged this way."
-  pub probe-accepts : probed ≡ ProbeSpec.accepted (offset 64 reading expected) tolerance
+  pub probe-accepts : probeAnswer reading expected tolerance ≡ ProbeSpec.accepted (offset 64 reading expected) tolerance
   probe-accepts = rw (lt-ltb tolerance (half 64) fits)
 
   -- "offset = reading - expected modulo 2^64, read as a signed number from -2^63 to 2^63 - 1".
-  pub offset-right : (negℤ (pos (2 ^ 63)) ≤ℤ probed .offset) × (probed .offset ≤ℤ pos (2 ^ 63 - 1))
-      × (Word.sum 64 (Probe.wordOf 64 (probed .offset)) expected ≡ Word.word 64 reading)
+  pub offset-right :
+      let probed = probeAnswer reading expected tolerance in
+      (negℤ (pos (2 ^ 63)) ≤ℤ probed .offset) × (probed .offset ≤ℤ pos (2 ^ 63 - 1))
+      × (Word.sum 64 (ProbeSpec.wordOf 64 (probed .offset)) expected ≡ Word.word 64 reading)
   offset-right =
       let (least, greatest) = Probe.offset-range 64 reading expected (omega arith) in
       rw probe-accepts (least, greatest, Probe.offset-word 64 reading expected)
 
   -- "Offset above T is *ahead*, below -T is *behind*, else *within*. Offset -2^63 is always behind."
-  pub verdict-right : (pos tolerance <ℤ probed .offset → verdictWord (probed .verdict) ≡ ahead)
+  pub verdict-right :
+      let probed = probeAnswer reading expected tolerance in
+      (pos tolerance <ℤ probed .offset → verdictWord (probed .verdict) ≡ ahead)
       × (probed .offset <ℤ negℤ (pos tolerance) → verdictWord (probed .verdict) ≡ behind)
       × (negℤ (pos tolerance) ≤ℤ probed .offset → probed .offset ≤ℤ pos tolerance → verdictWord (probed .verdict) ≡ within)
       × (probed .offset ≡ negℤ (pos (2 ^ 63)) → verdictWord (probed .verdict) ≡ behind)

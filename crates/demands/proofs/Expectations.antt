@@ -19,7 +19,7 @@ use Rattle.plan.proofs.Sharing.{point-at}
 use Rattle.fold.specs.Folded.{Folded, constant, valueAt}
 use Rattle.fold.specs.Folding.{fold}
 use Rattle.fold.specs.Layout.{rowsFrom, planWords}
-use Rattle.fold.specs.Shape.{WellFormed}
+use Rattle.fold.proofs.Shape.{WellFormed}
 use Rattle.fold.proofs.FoldShape.{accepted-formed}
 use Rattle.fold.proofs.FoldValues.{fold-value}
 use Rattle.fold.proofs.ReadBack.{rows-back}

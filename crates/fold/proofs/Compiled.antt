@@ -1,86 +1,34 @@
 -- What a compiled plan says, for every accepted formula and every grid, whatever words follow the plan's own: it is sound, its points are
 -- the formula's direct values, and two that are one constant or sum chain each are equal exactly when their first 17 points are.
 use mathlib.Core.Path.{_≡_, refl, sym, ap, subst, _∙_}
-use mathlib.Core.Bool.{true, cond, and-eq-true-iff}
+use mathlib.Core.Bool.{true}
 use mathlib.Core.Logic.{_↔_}
 use mathlib.Core.List.{List, [], _++_}
-use Prim.Native.Nat.{ℕ, _%_, _≤_, _<_}
+use Prim.Native.Nat.{ℕ, _≤_, _<_}
 use native.Mathlib.Omega.{arith}
-use lib.Dec.{eqb}
 use lib.ListN.{length, getD}
-use borrow.Author.Tests.{eqb-true, eq-eqb}
 use Rattle.plan.specs.Measures.{planLength, mostRows}
 use Rattle.formula.specs.Tree.{Tree}
 use Rattle.formula.specs.Value.{directValue}
 use Rattle.formula.specs.Refusals.{Accepted}
 use Rattle.formula_scan.proofs.Answers.{accepted-base}
-use Rattle.plan.specs.Row.{kind, wordA, oddConstant, keepsTable}
+use Rattle.plan.specs.Row.{kind}
 use Rattle.plan.specs.Plan as Plan
 use Rattle.plan.specs.Points.{rootValue, chainOf}
 use Rattle.plan.specs.Filling.{planAfter}
-use Rattle.plan.proofs.SoundLaws.{sound-row, sound-keeps, kept-base, earlier-row}
 use Rattle.plan.proofs.Sharing.{shared, length-points}
 use Rattle.plan.specs.Calls.{Call, written, planLeft, pointsOf}
 use Rattle.fold.specs.Folded.{Folded, constant, sumChain, productChain, sumRow, differenceRow, productRow, minusRow, powerRow, raiseRow, ofSum}
 use Rattle.fold.specs.Folding.{isSum, fold}
 use Rattle.fold.specs.OneChain.{OneSum}
 use Rattle.fold.specs.Layout.{rowCount, rowsFrom, planWords}
-use Rattle.fold.specs.Shape.{OddBase, WellFormed}
+use Rattle.fold.proofs.Shape.{WellFormed}
 use Rattle.fold.proofs.FoldShape.{accepted-formed, accepted-rows}
 use Rattle.fold.proofs.FoldValues.{fold-value}
 use Rattle.fold.proofs.Equality.{equal-folds}
 use Rattle.fold.proofs.ReadBack.{sum-back, some-rows, length-plan, row-back}
 use Rattle.fold.proofs.PlanSound.{plan-sound, plan-accepted}
 use Rattle.fold.proofs.PlanValues.{plan-value, points-written}
-
--- The plan of a formula on a grid.
-abbrev pub compiled : ℕ → ℕ → ℕ → Tree → List ℕ
-compiled w start step t = planWords (fold w start step t)
-
--- ---- the bases of raises
--- `Within a b`: the folded tree a is b or stands in it.
-pub data Within : Folded → Folded → Type 0 where
-  whole : {a : Folded} → Within a a
-  left-of-sum : {a b c : Folded} → Within a b → Within a (sumRow b c)
-  right-of-sum : {a b c : Folded} → Within a c → Within a (sumRow b c)
-  left-of-difference : {a b c : Folded} → Within a b → Within a (differenceRow b c)
-  right-of-difference : {a b c : Folded} → Within a c → Within a (differenceRow b c)
-  left-of-product : {a b c : Folded} → Within a b → Within a (productRow b c)
-  right-of-product : {a b c : Folded} → Within a c → Within a (productRow b c)
-  of-minus : {a b : Folded} → Within a b → Within a (minusRow b)
-  of-power : {a b : Folded} {n : ℕ} → Within a b → Within a (powerRow b n)
-  of-base : {a b c : Folded} → Within a b → Within a (raiseRow b c)
-  of-exponent : {a b c : Folded} → Within a c → Within a (raiseRow b c)
-
-formed-within : (w : ℕ) {a b : Folded} → Within a b → WellFormed w b → WellFormed w a
-unfolding WellFormed
-formed-within w whole h = h
-formed-within w (left-of-sum k) h = formed-within w k (h .0)
-formed-within w (right-of-sum k) h = formed-within w k (h .1)
-formed-within w (left-of-difference k) h = formed-within w k (h .0)
-formed-within w (right-of-difference k) h = formed-within w k (h .1)
-formed-within w (left-of-product k) h = formed-within w k (h .0)
-formed-within w (right-of-product k) h = formed-within w k (h .1)
-formed-within w (of-minus k) h = formed-within w k h
-formed-within w (of-power k) h = formed-within w k (h .2)
-formed-within w (of-base k) h = formed-within w k (h .1)
-formed-within w (of-exponent k) h = formed-within w k (h .2)
-
--- The row that a raise row of a sound plan names for its base.
-abbrev pub baseRow : List ℕ → ℕ → List ℕ
-baseRow p r = Plan.row p (wordA (Plan.row p r))
-
-sound-base-row : (p : List ℕ) → Plan.sound p ≡ true → (r : ℕ) → r < Plan.rowCount p → kind (Plan.row p r) ≡ 8
-    → (kind (baseRow p r) ≡ 0) × (getD (baseRow p r) 3 0 % 2 ≡ 1)
-sound-base-row p sound r h e =
-    let (constantly, odd) = and-eq-true-iff (eqb (kind (baseRow p r)) 0) _ .0 test in
-    (eqb-true _ 0 constantly, eqb-true _ 1 odd)
-  where
-    test : oddConstant (baseRow p r) ≡ true
-    test =
-        ap (λ row. oddConstant row) (sym (earlier-row p r (wordA (Plan.row p r)) (kept-base r (Plan.row p r) (sound-keeps p r sound h) e)))
-        ∙ ap (λ b. cond b (oddConstant (getD (Plan.firstRows r p) (wordA (Plan.row p r)) [])) true) (sym (eq-eqb (kind (Plan.row p r)) 8 e))
-        ∙ and-eq-true-iff (keepsTable (length (Plan.firstRows r p)) (Plan.row p r)) _ .0 (sound-row p r sound h) .1
 
 -- ---- plans of one chain
 one-row-sum : (a : Folded) → rowCount a ≡ 1 → kind (getD (rowsFrom 0 a) 0 []) ≤ 1 → isSum a ≡ true
@@ -112,57 +60,45 @@ module _ (w start step : ℕ) (pos : 0 < w) {s : List ℕ} {t : Tree} (accepted 
   few = accepted-rows w start step accepted
 
   -- "Compiling writes all 2,561 words".
-  pub compiled-length : length (compiled w start step t) ≡ planLength
+  pub compiled-length : length (planWords (fold w start step t)) ≡ planLength
   compiled-length = length-plan (fold w start step t) few
-
-  -- Every raise that stays in the folded tree has an odd constant for a base.
-  pub compiled-bases : (a b : Folded) → Within (raiseRow a b) (fold w start step t) → OddBase a
-  unfolding WellFormed
-  compiled-bases a b within = formed-within w within formed .0
 
   -- The plan as it is lent: its own words, and whatever follows them.
   module _ (rest : List ℕ) where
-    abbrev lent : List ℕ
-    lent = compiled w start step t ++ rest
-
     -- It is sound, and so no call refuses it.
-    pub compiled-sound : Plan.sound lent ≡ true
+    pub compiled-sound : Plan.sound (planWords (fold w start step t) ++ rest) ≡ true
     compiled-sound = plan-sound w (fold w start step t) formed few rest
 
-    pub compiled-accepted : Plan.refusal lent ≡ 0
+    pub compiled-accepted : Plan.refusal (planWords (fold w start step t) ++ rest) ≡ 0
     compiled-accepted = plan-accepted w (fold w start step t) formed few rest
 
     -- It has 128 rows at most.
-    pub compiled-rows : Plan.rowCount lent ≤ mostRows
+    pub compiled-rows : Plan.rowCount (planWords (fold w start step t) ++ rest) ≤ mostRows
     compiled-rows = few
 
-    -- Every raise row has an odd constant for a base.
-    pub compiled-base-rows : (r : ℕ) → r < Plan.rowCount lent → kind (Plan.row lent r) ≡ 8
-        → (kind (baseRow lent r) ≡ 0) × (getD (baseRow lent r) 3 0 % 2 ≡ 1)
-    compiled-base-rows = sound-base-row lent compiled-sound
-
     -- Its value after i points is the formula's direct value at index i.
-    pub compiled-value : (i : ℕ) → rootValue w (planAfter w i lent) ≡ directValue w start step t i
+    pub compiled-value : (i : ℕ) → rootValue w (planAfter w i (planWords (fold w start step t) ++ rest)) ≡ directValue w start step t i
     compiled-value i = plan-value w i (fold w start step t) rest formed ∙ fold-value w start step t (accepted-base accepted) i
 
     -- Whatever fill calls are made on it, point i of what they write is the direct value at index i; they leave the plan shifted as often
     -- as they answer points, and write as many words.
     pub compiled-points : (calls : List Call)
-        → ((i : ℕ) → i < pointsOf w lent calls → getD (written w lent calls) i 0 ≡ directValue w start step t i)
-        × (planLeft w lent calls ≡ planAfter w (pointsOf w lent calls) lent)
-        × (length (written w lent calls) ≡ pointsOf w lent calls)
+        → let p = planWords (fold w start step t) ++ rest in
+        ((i : ℕ) → i < pointsOf w p calls → getD (written w p calls) i 0 ≡ directValue w start step t i)
+        × (planLeft w p calls ≡ planAfter w (pointsOf w p calls) p)
+        × (length (written w p calls) ≡ pointsOf w p calls)
     compiled-points calls = (
       λ i h. points-written w (fold w start step t) rest calls i formed compiled-accepted h ∙ fold-value w start step t (accepted-base accepted) i,
-      shared w lent calls compiled-accepted .1,
-      ap length (shared w lent calls compiled-accepted .0) ∙ length-points w (pointsOf w lent calls) lent,
+      shared w _ calls compiled-accepted .1,
+      ap length (shared w _ calls compiled-accepted .0) ∙ length-points w (pointsOf w _ calls) _,
     )
 
 -- Two formulas, each on its own grid, whose plans are one constant or sum chain each: the rows, which are kind, length and elements, are
 -- equal exactly when the direct values agree at indices 0 to 16.
 module _ (w start step : ℕ) (pos : 0 < w) {s : List ℕ} {t : Tree} (accepted : Accepted w s t) (rest : List ℕ)
     (start′ step′ : ℕ) {s′ : List ℕ} {u : Tree} (accepted′ : Accepted w s′ u) (rest′ : List ℕ) where
-  pub compiled-equal : OneSum (compiled w start step t ++ rest) → OneSum (compiled w start′ step′ u ++ rest′)
-      → (Plan.row (compiled w start step t ++ rest) 0 ≡ Plan.row (compiled w start′ step′ u ++ rest′) 0)
+  pub compiled-equal : OneSum (planWords (fold w start step t) ++ rest) → OneSum (planWords (fold w start′ step′ u) ++ rest′)
+      → (Plan.row (planWords (fold w start step t) ++ rest) 0 ≡ Plan.row (planWords (fold w start′ step′ u) ++ rest′) 0)
       ↔ ((i : ℕ) → i ≤ 16 → directValue w start step t i ≡ directValue w start′ step′ u i)
   compiled-equal p q = (
     λ same. folds .0 (sym (sum-read w a h rest p) ∙ ap (λ row. ofSum (chainOf row)) same ∙ sum-read w b k rest′ q),

@@ -18,7 +18,7 @@ use Rattle.formula.specs.Value.{directValue}
 use Rattle.formula_scan.proofs.Parity.{OddBases}
 use Rattle.fold.specs.Folded.{Folded, constant, sumChain, isConstant, isSumChain, isProductChain, elements, ofSum, ofProduct, valueAt}
 use Rattle.fold.specs.Folding.{wordOf, isSum, fold}
-use Rattle.fold.specs.Shape.{WellFormed}
+use Rattle.fold.proofs.Shape.{WellFormed}
 use Rattle.fold.proofs.Tests.{either, shaped, sum-chain-again}
 use Rattle.fold.proofs.Rules.{fold-each}
 use Rattle.fold.proofs.FoldValues.{sum-value, fold-value}

@@ -28,7 +28,7 @@ use Rattle.fold.specs.Folded.{Folded, constant, sumChain, productChain, 
 use Rattle.fold.specs.Folded.{isConstant, isSumChain, elements, ofSum, ofProduct, trimmedSum, trimmedProduct}
 use Rattle.fold.specs.Folding.{wordOf, lengthOf, foldSum, foldMinus, foldDifference, foldProduct, foldPower, foldRaise, fold}
 use Rattle.fold.specs.Layout.{rowCount}
-use Rattle.fold.specs.Shape.{Fits, OddBase, WellFormed}
+use Rattle.fold.proofs.Shape.{Fits, OddBase, WellFormed}
 use Rattle.fold.proofs.Tests.{shaped}
 use Rattle.fold.proofs.Rules.{sum-rules, minus-rules, difference-rules, product-rules, power-rules, raise-rules}
 

@@ -1,6 +1,6 @@
 -- Folding changes no value: each operator's rules keep it, at every index, and so the folded tree of a formula has its direct value.
 use mathlib.Core.Path.{_≡_, refl, sym, ap, ap₂, subst, _∙_}
-use mathlib.Core.Bool.{true, _&&_, _||_, false≢true, and-eq-true-iff}
+use mathlib.Core.Bool.{true, false, _&&_, _||_, false≢true, and-eq-true-iff}
 use mathlib.Core.List.{List, [], _∷_, map}
 use Prim.Native.Nat.{ℕ, zero, suc, _+_, _-_, _*_, _%_, _^_, _<_}
 use native.Mathlib.Nat.{mod-mod, mod-add-mod, add-mod-mod, add-zero, zero-add, one-mul, mul-one, zero-mul, mul-zero, mul-comm}
@@ -25,13 +25,12 @@ use Rattle.chain.proofs.ProductLaws as ProductLaws
 use Rattle.formula.specs.Tree as Tree
 use Rattle.formula.specs.Tree.{Tree}
 use Rattle.formula.specs.Value.{valueFor, directValue}
-use Rattle.formula.specs.Refusals.{sum-left, sum-right, difference-left, difference-right, product-left, product-right}
+use Rattle.formula.specs.Refusals.{Part, sum-left, sum-right, difference-left, difference-right, product-left, product-right}
 use Rattle.formula.specs.Refusals.{under-minus, under-power, in-base, in-exponent}
-use Rattle.formula_scan.proofs.Parity.{OddBases}
 use Rattle.fold.specs.Folded.{Folded, constant, sumChain, productChain, sumRow, differenceRow, productRow, minusRow, powerRow, raiseRow}
 use Rattle.fold.specs.Folded.{isConstant, isSumChain, isProductChain, elements, ofSum, ofProduct, trimmedSum, trimmedProduct, valueAt}
 use Rattle.fold.specs.Folding.{wordOf, is, constants, isSum, lengthOf, foldSum, foldMinus, foldDifference, foldProduct, foldPower, foldRaise, fold}
-use Rattle.fold.specs.Shape.{OddBase}
+use Rattle.fold.proofs.Shape.{OddBase}
 use Rattle.fold.proofs.Tests.{either, shaped}
 use Rattle.fold.proofs.Rules.{sum-rules, minus-rules, difference-rules, product-rules, power-rules, raise-rules, fold-each}
 use Rattle.fold.proofs.FoldShape.{fold-base}
@@ -383,7 +382,9 @@ grid-value start step (suc i) =
     ∙ omega arith
 
 -- ---- the folded tree of a formula whose raises have odd bases has the formula's direct value
-pub fold-value : (w start step : ℕ) (t : Tree) → OddBases w t → (i : ℕ) → valueAt w (fold w start step t) i ≡ directValue w start step t i
+pub fold-value : (w start step : ℕ) (t : Tree)
+    → ((a b : Tree) (p : ℕ) → Part (Tree.raise a p b) t → (Tree.holdsX a ≡ false) × (valueFor w 0 a % 2 ≡ 1))
+    → (i : ℕ) → valueAt w (fold w start step t) i ≡ directValue w start step t i
 unfolding fold valueAt valueFor
 fold-value w start step (Tree.number p v) good i = mod-mod v (2 ^ w)
 fold-value w start step Tree.variable good i =

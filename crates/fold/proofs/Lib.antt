@@ -1,4 +1,5 @@
 -- Laws of folding, for the crates above.
+pub mod Shape
 pub mod Tests
 pub mod Rules
 pub mod FoldShape

@@ -18,7 +18,7 @@ use Rattle.plan.proofs.RowLaws.{sound-append}
 use Rattle.fold.specs.Folded.{Folded, constant, sumChain, productChain, sumRow, differenceRow, productRow, minusRow, powerRow, raiseRow}
 use Rattle.fold.specs.Folding.{wordOf}
 use Rattle.fold.specs.Layout.{rowCount, rowWords, rootRow, behindBoth, rowsFrom, planWords}
-use Rattle.fold.specs.Shape.{Fits, OddBase, WellFormed}
+use Rattle.fold.proofs.Shape.{Fits, OddBase, WellFormed}
 use Rattle.fold.proofs.Tests.{shaped}
 use Rattle.fold.proofs.ReadBack.{row-elements, rows-of, some-rows, length-plan, rows-back, zeros-back}
 

@@ -30,7 +30,7 @@ use Rattle.plan.specs.Calls.{Call, written, pointsOf}
 use Rattle.fold.specs.Folded.{Folded, constant, sumChain, productChain, sumRow, differenceRow, productRow, minusRow, powerRow, raiseRow}
 use Rattle.fold.specs.Folded.{isConstant, valueAt}
 use Rattle.fold.specs.Layout.{rowCount, rowWords, rootRow, behindBoth, rowsFrom, wordsOf, planWords}
-use Rattle.fold.specs.Shape.{Fits, OddBase, WellFormed}
+use Rattle.fold.proofs.Shape.{Fits, OddBase, WellFormed}
 use Rattle.fold.proofs.Tests.{shaped}
 use Rattle.fold.proofs.FoldShape.{words-below}
 use Rattle.fold.proofs.ReadBack.{row-elements, FullRows, first-row, later-words, rows-of, some-rows}

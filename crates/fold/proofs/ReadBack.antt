@@ -18,7 +18,7 @@ use Rattle.fold.specs.Folded.{Folded, constant, sumChain, productChain, 
 use Rattle.fold.specs.Folded.{isConstant, isSumChain, elements, ofSum}
 use Rattle.fold.specs.Folding.{isSum}
 use Rattle.fold.specs.Layout.{rowCount, rowWords, rowsFrom, wordsOf, planWords}
-use Rattle.fold.specs.Shape.{Fits, WellFormed}
+use Rattle.fold.proofs.Shape.{Fits, WellFormed}
 use Rattle.fold.proofs.Tests.{either, shaped, sum-chain-again}
 
 -- ---- rows of 20 words each

@@ -8,7 +8,7 @@ use lib.ListN.{length}
 use Rattle.fold.specs.Folded.{Folded, constant, sumChain, productChain, sumRow, differenceRow, productRow, minusRow, powerRow, raiseRow}
 use Rattle.fold.specs.Folded.{isConstant, isSumChain, isProductChain, elements, ofSum}
 use Rattle.fold.specs.Folding.{wordOf}
-use Rattle.fold.specs.Shape.{Fits}
+use Rattle.fold.proofs.Shape.{Fits}
 
 -- One of two tests holds.
 pub either : {P : Type 0} (a b : Bool) → (a || b) ≡ true → (a ≡ true → P) → (b ≡ true → P) → P

@@ -2,6 +2,5 @@
 pub mod Folded
 pub mod Folding
 pub mod Layout
-pub mod Shape
 pub mod OneChain
 pub mod Compiling

@@ -14,7 +14,7 @@ use Rattle.chain.proofs.Trimming.{length-trimmed-some}
 use Rattle.fold.specs.Folded.{Folded, constant, sumRow, differenceRow, productRow, minusRow, powerRow, raiseRow, ofSum, ofProduct, trimmedSum}
 use Rattle.fold.specs.Folding.{is}
 use Rattle.fold.specs.Layout.{rowCount, rowWords}
-use Rattle.fold.specs.Shape.{WellFormed}
+use Rattle.fold.proofs.Shape.{WellFormed}
 use Rattle.fold_rows.specs.Standing.{withRow, Stands, placed, movedDown}
 use Rattle.fold_rows.proofs.Stood.{sum-placed, placed-again, placed-stands, moved-placed, minus-placed, power-placed}
 use Rattle.fold_rows.proofs.Stood.{sum-row-placed, difference-row-placed, product-row-placed, raise-row-placed}

@@ -15,7 +15,7 @@ use Rattle.fold.specs.Folded.{Folded, constant, sumChain, productChain, sumRow,
 use Rattle.fold.specs.Folded.{isConstant}
 use Rattle.fold.specs.Folding.{wordOf, is, lengthOf}
 use Rattle.fold.specs.Layout.{rowWords}
-use Rattle.fold.specs.Shape.{WellFormed}
+use Rattle.fold.proofs.Shape.{WellFormed}
 use Rattle.fold.proofs.ReadBack.{row-elements, some-rows, take-row}
 use Rattle.fold.proofs.Tests.{shaped}
 use Rattle.fold_rows.proofs.Stood.{kindOf, root-kind, one-row, chain-stands, is-test, is-none}

@@ -4,7 +4,7 @@ use mathlib.Core.List.{List}
 use Prim.Native.Nat.{ℕ, _+_}
 use Rattle.fold.specs.Folded.{Folded}
 use Rattle.fold.specs.Layout.{rowCount}
-use Rattle.fold.specs.Shape.{WellFormed}
+use Rattle.fold.proofs.Shape.{WellFormed}
 use Rattle.fold_rows.specs.Standing.{Stands, placed}
 
 -- The operand a stands from row `first` on, up to row `end`.

@@ -18,7 +18,7 @@ use Rattle.chain.proofs.Calls.{length-product}
 use Rattle.fold.specs.Folded.{Folded, constant, sumChain, productChain, sumRow, differenceRow, productRow, minusRow, powerRow, raiseRow}
 use Rattle.fold.specs.Folded.{isConstant, isSumChain, isProductChain, elements, ofSum, trimmedSum, trimmedProduct}
 use Rattle.fold.specs.Folding.{wordOf, is, constants, lengthOf, foldProduct}
-use Rattle.fold.specs.Shape.{WellFormed}
+use Rattle.fold.proofs.Shape.{WellFormed}
 use Rattle.fold.proofs.Rules.{picked}
 use Rattle.fold.proofs.Tests.{shaped, either}
 use Rattle.fold_rows.proofs.Stood.{kindOf, constant-test, sum-chain-test, product-chain-test}

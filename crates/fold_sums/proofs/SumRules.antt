@@ -25,7 +25,7 @@ use Rattle.fold_operands.proofs.OperandLaws.{Chain, row-taken, Sum, one, severa
 use Rattle.fold_operands.proofs.OnesTrimmed.{filled-trimmed}
 use Rattle.fold_sums.specs.ByKind.{SumOrDifference, plus, less, foldSumOrDifference, chainOfBoth, bothOutcome, foldAlone, rowOfBoth}
 
--- ---- what arithmetic::sum and arithmetic::difference answer on rows of chains: the chains need not be trimmed first
+-- ---- what chain_calls::sum and chain_calls::difference answer on rows of chains: the chains need not be trimmed first
 both-as : {kind : ℕ} → SumOrDifference kind → (w : ℕ) (f f′ g g′ : List ℕ) → ((i : ℕ) → sumAt f i ≡ sumAt f′ i) → ((i : ℕ) → sumAt g i ≡ sumAt g′ i)
     → length f′ ≤ 17 → length g′ ≤ 17 → trimmed 0 (row 17 (chainOfBoth w kind f g)) ≡ trimmed 0 (chainOfBoth w kind f′ g′)
 both-as plus = sum-as

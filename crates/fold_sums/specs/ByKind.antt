@@ -1,4 +1,4 @@
--- Sum and difference as one operator, by the kind of its row. The rules themselves stand in folding, each under its sentence.
+-- Sum and difference as one operator, by the kind of its row. The rules themselves stand in `fold`, each under its sentence.
 use mathlib.Core.Bool.{cond}
 use mathlib.Core.List.{List}
 use Prim.Native.Nat.{ℕ}

@@ -1,3 +1,3 @@
--- Laws of the grammar and of the scan that decides it, and each way through the readers.
+-- Laws of digits, and of where the parts of a tree stand in its text. The laws of the grammar are in `formula_scan`.
 pub mod DigitLists
 pub mod Places

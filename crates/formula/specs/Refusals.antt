@@ -73,8 +73,9 @@ pub record Accepted (w : ℕ) (s : List ℕ) (t : Tree) : Type 0 where
   pub means : Formula s t
   pub faultless : (n p : ℕ) → Fault w s n p → ⊥
 
--- What reading a text into a lent tree answers, and what the lent words are afterwards: 1 (for a lent tree under 257 words), then 2 to 8;
--- "a refusal alters no lent word"; "What lies past the 257 words stays".
+-- What reading a text into a lent tree answers, and what the lent words are afterwards. The call is document 02's, its request Eight, in whose
+-- words "1, a lent tree under 257 words", "for reading then 2 to 8", "What lies past the 257 words or past the text stays"; 01 has "a refusal alters
+-- no lent word".
 pub data Reading (w : ℕ) (s lent : List ℕ) : ReadAnswer → List ℕ → Type 0 where
   too-short : length lent < treeLength → Reading w s lent (record { number = 1; place = 0 }) lent
   refused : {n p : ℕ} → treeLength ≤ length lent → Refused w s n p → Reading w s lent (record { number = n; place = p }) lent

@@ -1,10 +1,11 @@
--- The words of a tree: "the node count, then two words a node in postfix order, left operand first", in 257 words.
+-- The words of a tree: "the node count, then two words a node in postfix order, left operand first", in 257 words. What is quoted here is
+-- document 02's, its request Eight, which has a call read a text into a lent tree; 01 has the nodes and their limit.
 use mathlib.Core.List.{List, [], _∷_, _++_}
 use Prim.Native.Nat.{ℕ, _+_, _-_, _*_}
 use lib.ListN.{length, replicate}
 use Rattle.formula.specs.Tree.{Tree, number, variable, sum, difference, product, minus, literalPower, raise, nodes}
 
--- 128 nodes at most, "two words a node", behind the node count: "a lent tree of 257 words".
+-- 01's 128 nodes at most, "two words a node", behind the node count: "a lent tree of 257 words".
 abbrev pub mostNodes : ℕ
 mostNodes = 128
 

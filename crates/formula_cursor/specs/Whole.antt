@@ -1,4 +1,4 @@
--- What is found of a text from a place on, and of a whole text. What a sum reader finds is in the formula's definitions.
+-- What is found of a text from a place on, and of a whole text. What a sum reader finds is in `formula_scan`.
 use mathlib.Core.Path.{_≡_}
 use mathlib.Core.Bool.{cond, _&&_}
 use mathlib.Core.List.{List, []}

@@ -1,5 +1,5 @@
 -- The grammar as a scan from left to right, one byte after the other, with what is pending as its state. The readers' own contracts
--- go by it and closed texts are decided by it; proofs/ shows that it reads exactly what Grammar.antt says. Nobody has to believe it.
+-- go by it and closed texts are decided by it; proofs/ shows that it reads exactly what `formula`'s Grammar.antt says. Nobody has to believe it.
 use mathlib.Core.Bool.{cond, _&&_}
 use mathlib.Core.List.{List, [], _∷_}
 use Prim.Native.Nat.{ℕ, zero, suc, _+_, _-_, _*_}

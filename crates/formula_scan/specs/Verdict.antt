@@ -1,5 +1,5 @@
 -- The answer to a text as one function: its refusal, or its tree. Nobody has to believe this page: proofs/Verdicts.antt shows that it
--- says what Refusals.antt says.
+-- says what `formula`'s Refusals.antt says.
 use mathlib.Core.Bool.{cond}
 use mathlib.Core.List.{List, [], _∷_}
 use Prim.Native.Nat.{ℕ, _+_, _/_, _%_}

@@ -1,4 +1,3 @@
--- What the contracts of `fields` cite: lines and fields of bytes, and what is judged of a header, a defaults line and a job line.
--- What the contracts of `numerals` cite: the digits of a number, the number of a field, and bytes written into a lent buffer.
+-- What the contracts of `table_fields` cite beside `table`: what its readers of a field answer, and bytes written into a lent buffer.
 pub mod Reading
 pub mod Writing

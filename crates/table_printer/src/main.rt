@@ -1,5 +1,5 @@
 // The table printer: reads a job file from standard input and writes what it prints to standard output.
-// What a run prints is decided in `steps`; here bytes are read and written, and buffers are lent.
+// What a run prints is decided in `table_steps`; here bytes are read and written, and buffers are lent.
 use libc::STDIN_FILENO;
 use libc::STDOUT_FILENO;
 use table_progress::Progress;

@@ -14,7 +14,9 @@ use Rattle.plan.specs.Plan.{refusal}
 use Rattle.plan.specs.Points.{rootValue}
 use Rattle.plan.specs.Filling.{planAfter, pointValues}
 use Rattle.plan.proofs.Sharing.{after-next}
-use Rattle.fold.proofs.Compiled.{compiled, compiled-accepted, compiled-value}
+use Rattle.fold.specs.Folding.{fold}
+use Rattle.fold.specs.Layout.{planWords}
+use Rattle.fold.proofs.Compiled.{compiled-accepted, compiled-value}
 use Rattle.table.specs.Lines.{directValues}
 
 -- ---- the points of a plan with these values
@@ -52,15 +54,15 @@ module _ (w start step : ℕ) (t : Tree) where
 
 -- ---- the plan's own words, with none behind them
 module _ (start step : ℕ) {s : List ℕ} {t : Tree} (accepted : Accepted 64 s t) where
-  alone : compiled 64 start step t ++ [] ≡ compiled 64 start step t
-  alone = append-nil (compiled 64 start step t)
+  alone : planWords (fold 64 start step t) ++ [] ≡ planWords (fold 64 start step t)
+  alone = append-nil (planWords (fold 64 start step t))
 
-  pub accepted-sound : refusal (compiled 64 start step t) ≡ 0
+  pub accepted-sound : refusal (planWords (fold 64 start step t)) ≡ 0
   accepted-sound = subst (λ p. refusal p ≡ 0) alone (compiled-accepted 64 start step (omega arith) accepted [])
 
-  pub accepted-values : (n : ℕ) → pointValues 64 n (compiled 64 start step t) ≡ directValues 64 start step t 0 n
+  pub accepted-values : (n : ℕ) → pointValues 64 n (planWords (fold 64 start step t)) ≡ directValues 64 start step t 0 n
   unfolding planAfter
-  accepted-values n = values-from 64 start step t (compiled 64 start step t) same n 0
+  accepted-values n = values-from 64 start step t (planWords (fold 64 start step t)) same n 0
     where
-      same : (i : ℕ) → rootValue 64 (planAfter 64 i (compiled 64 start step t)) ≡ directValue 64 start step t i
+      same : (i : ℕ) → rootValue 64 (planAfter 64 i (planWords (fold 64 start step t))) ≡ directValue 64 start step t i
       same i = ap (λ p. rootValue 64 (planAfter 64 i p)) (sym alone) ∙ compiled-value 64 start step (omega arith) accepted [] i

@@ -11,7 +11,7 @@ use Rattle.table.specs.Parts.{lineFeed}
 use Rattle.table_progress.specs.declared.Progress.{Progress}
 use Rattle.table_progress.specs.Run.{run}
 use Rattle.table_progress.specs.Steps.{started, Buffers, ready, Outcome, stepped, finished}
-use Rattle.table_progress.specs.Runs.{lent, Roomy, Runs, ends, steps}
+use Rattle.table_progress.specs.Runs.{lent, Roomy, Runs, ends, steps, Reached, at-start, by-step}
 use Rattle.table_progress.proofs.Scanned.{run-is-scan}
 use Rattle.table_progress.proofs.Readiness.{is-ready, makes-ready, step-was-ready}
 use Rattle.table_progress.proofs.Stepping.{remaining, remainingAfter, StepDone, step-done, EndDone, end-done}
@@ -80,16 +80,6 @@ module _ (p : Progress) (line defaults plan table out chunk rest : List ℕ) (o 
   }
 
 -- ---- wherever calls have led
--- `Reached line defaults input p line′ defaults′ left`: accepted steps from the start have led to p, with that much of the input left.
-pub data Reached (line defaults input : List ℕ) : Progress → (line′ defaults′ left : List ℕ) → Type 0 where
-  at-start : Reached line defaults input started line defaults input
-  by-step : {p : Progress} {line′ defaults′ left : List ℕ} (plan table out chunk rest : List ℕ) (o : Outcome)
-      → Reached line defaults input p line′ defaults′ left
-      → left ≡ chunk ++ rest
-      → o ≡ stepped p chunk (lent line′ defaults′ plan table out)
-      → o .answer .ok ≡ true
-      → Reached line defaults input (o .answer .progress) (o .buffers .line) (o .buffers .defaults) (drop (o .answer .used) chunk ++ rest)
-
 module _ {line defaults input : List ℕ} (h : 4097 ≤ length line) (k : 4096 ≤ length defaults) (few : count lineFeed input < 2 ^ 64 - 1) where
   pub reached-goes-on : {p : Progress} {line′ defaults′ left : List ℕ} → Reached line defaults input p line′ defaults′ left
       → GoesOn p line′ defaults′ (count lineFeed left)

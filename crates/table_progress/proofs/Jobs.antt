@@ -17,7 +17,8 @@ use Rattle.formula_scan.proofs.Verdicts.{refused-verdict, accepted-verdict}
 use Rattle.plan.specs.Plan.{rowCount, cost, refusal}
 use Rattle.plan.specs.Filling.{planAfter, pointValues}
 use Rattle.plan.proofs.RowLaws.{part, partPut}
-use Rattle.fold.proofs.Compiled.{compiled}
+use Rattle.fold.specs.Folding.{fold}
+use Rattle.fold.specs.Layout.{planWords}
 use Rattle.fold.specs.declared.CompileAnswer.{CompileAnswer}
 use Rattle.fold.specs.Compiling.{Compiling, too-short, refused, accepted}
 use Rattle.table_fields.specs.Writing.{Wrote}
@@ -49,7 +50,7 @@ module _ (n : ℕ) (job : JobLine) (formula : List ℕ) where
     -- has by its meaning alone, without a plan.
     pub prints-accepted : {t : Tree} → Accepted 64 formula t
         → judgedPrints n job formula
-        ≡ jobLine n (rowCount (compiled 64 (job .start) (job .step) t)) (cost (compiled 64 (job .start) (job .step) t))
+        ≡ jobLine n (rowCount (planWords (fold 64 (job .start) (job .step) t))) (cost (planWords (fold 64 (job .start) (job .step) t)))
         ++ pointLines 0 (directValues 64 (job .start) (job .step) t 0 (job .count))
     unfolding verdictPrints
     prints-accepted {t} found =
@@ -57,7 +58,7 @@ module _ (n : ℕ) (job : JobLine) (formula : List ℕ) where
         ∙ ap (λ values. jobLine n (rowCount p) (cost p) ++ pointLines 0 values) (accepted-values (job .start) (job .step) found (job .count))
       where
         p : List ℕ
-        p = compiled 64 (job .start) (job .step) t
+        p = planWords (fold 64 (job .start) (job .step) t)
 
 -- ---- the lines, the plan and the table, as the code leaves them
 module _ (n : ℕ) (job : JobLine) (formula plan table out : List ℕ) where
@@ -92,14 +93,14 @@ module _ (n : ℕ) (job : JobLine) (formula plan table out : List ℕ) where
   -- A formula that compiling accepts: the plan's 2,561 words are all that was lent.
   formula-accepted : {answer : CompileAnswer} {plan′ : List ℕ} → length plan ≡ planLength
       → Compiling 64 formula (job .start) (job .step) plan answer plan′ → answer .number ≡ 0
-      → (t : Tree) × Accepted 64 formula t × (plan′ ≡ compiled 64 (job .start) (job .step) t)
+      → (t : Tree) × Accepted 64 formula t × (plan′ ≡ planWords (fold 64 (job .start) (job .step) t))
   formula-accepted long (too-short h) none = absurd (omega arith)
   formula-accepted long (refused h found) none = absurd (omega (arith, none, fault-number (found .applies)))
   formula-accepted long (accepted {t} h found) none = (
     t,
     found,
-    ap (λ l. compiled 64 (job .start) (job .step) t ++ l) (drop-of-length-le plan {i = planLength} (omega arith))
-        ∙ append-nil (compiled 64 (job .start) (job .step) t),
+    ap (λ l. planWords (fold 64 (job .start) (job .step) t) ++ l) (drop-of-length-le plan {i = planLength} (omega arith))
+        ∙ append-nil (planWords (fold 64 (job .start) (job .step) t)),
   )
 
   module _ {answer : CompileAnswer} {plan′ : List ℕ} (long : length plan ≡ planLength)

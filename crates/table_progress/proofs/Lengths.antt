@@ -17,7 +17,8 @@ use Rattle.formula_scan.proofs.Verdicts.{verdict-accepted}
 use Rattle.plan.specs.Plan.{rowCount, cost, refusal}
 use Rattle.plan.specs.Filling.{pointValues}
 use Rattle.plan.proofs.Sharing.{length-points}
-use Rattle.fold.proofs.Compiled.{compiled}
+use Rattle.fold.specs.Folding.{fold}
+use Rattle.fold.specs.Layout.{planWords}
 use Rattle.fold.proofs.FoldShape.{accepted-rows}
 use Rattle.table.specs.Decimal.{decimal}
 use Rattle.table.proofs.Digits.{word-digits}
@@ -117,7 +118,7 @@ module _ (n : ℕ) (job : JobLine) (formula : List ℕ) (small : n < 2 ^ 64) (fe
       )
     where
       p : List ℕ
-      p = compiled 64 (job .start) (job .step) t
+      p = planWords (fold 64 (job .start) (job .step) t)
 
       values : List ℕ
       values = pointValues 64 (job .count) p

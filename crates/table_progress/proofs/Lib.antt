@@ -1,5 +1,4 @@
--- Laws of lines and steps, the theorem that steps add up to the run, and examples of runs.
--- Laws of what a job prints, for the crates above.
+-- Laws of what a job prints, of lines and of steps; that steps add up to the run, that it prints what `table` says, and examples of runs.
 pub mod Holding
 pub mod LinesEnded
 pub mod StepsTaken

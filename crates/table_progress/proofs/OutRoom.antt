@@ -106,9 +106,8 @@ module _ (n kept : ℕ) (l buffer : List ℕ) (h : n < 2 ^ 64 - 1) where
   line-fits Nothing = omega arith
 
 -- ---- a call
-pub record OutFits (b : Buffers) (o : Outcome) : Type 0 where
-  pub wrote : o .answer .wrote ≤ length (b .out)
-  pub out : length (o .buffers .out) ≡ length (b .out)
+abbrev OutFits : Buffers → Outcome → Type 0
+OutFits b o = (o .answer .wrote ≤ length (b .out)) × (length (o .buffers .out) ≡ length (b .out))
 
 -- A line's.
 module _ (p : Progress) (b : Buffers) (r : Ready p b) (l : List ℕ) where
@@ -119,18 +118,20 @@ module _ (p : Progress) (b : Buffers) (r : Ready p b) (l : List ℕ) where
   line-room = omega (arith, line-fits (p .number) (p .kept) l (b .defaults) (r .number) (p .awaited), r .out)
 
   line-out : (used : ℕ) → OutFits b (lineStep p l used b)
-  line-out used = record { wrote = omega (arith, line-room); out = length-over prints (b .out) (omega (arith, line-room)) }
+  line-out used = (omega (arith, line-room), length-over prints (b .out) (omega (arith, line-room)))
 
-pub step-out-fits : (p : Progress) (input : List ℕ) (b : Buffers) → ready p b ≡ true → OutFits b (stepped p input b)
+-- What an accepted call writes fits the lent output.
+pub step-out-fits : (p : Progress) (input : List ℕ) (b : Buffers) → ready p b ≡ true
+    → (stepped p input b .answer .wrote ≤ length (b .out)) × (length (stepped p input b .buffers .out) ≡ length (b .out))
 step-out-fits p input b e =
     by-step (OutFits b) p b e input
     (λ _. line-out p b (is-ready p b e) (heldWith (p .held) (b .line) (before lineFeed input)) (length (before lineFeed input) + 1))
-    (λ _. record { wrote = omega arith; out = refl })
+    (λ _. (omega arith, refl))
 
 -- The end's.
 end-out : (b : Buffers) (o : Outcome) → o .answer .wrote + length (endPrints (awaits (o .answer .progress) (o .buffers .defaults))) ≤ length (b .out)
     → length (o .buffers .out) ≡ length (b .out) → OutFits b (withEnd o)
-end-out b o h e = record { wrote = h; out = long }
+end-out b o h e = (h, long)
   where
     last : List ℕ
     last = endPrints (awaits (o .answer .progress) (o .buffers .defaults))
@@ -150,13 +151,14 @@ end-out b o h e = record { wrote = h; out = long }
           length-take w (o .buffers .out),
         )
 
-pub end-out-fits : (p : Progress) (b : Buffers) → ready p b ≡ true → OutFits b (finished p b)
+pub end-out-fits : (p : Progress) (b : Buffers) → ready p b ≡ true
+    → (finished p b .answer .wrote ≤ length (b .out)) × (length (finished p b .buffers .out) ≡ length (b .out))
 end-out-fits p b e =
     by-end (OutFits b) p b e
     (λ _. end-out b (stays p b) (omega (arith, end-short (awaits p (b .defaults)), is-ready p b e .out)) refl)
     (λ _. end-out b (lineStep p l 0 b)
     (rw (line-awaits (p .number) (p .kept) l (b .defaults) (p .awaited)) (line-room p b (is-ready p b e) l))
-    (line-out p b (is-ready p b e) l 0 .out))
+    (line-out p b (is-ready p b e) l 0 .1))
   where
     l : List ℕ
     l = take (p .held) (b .line)
@@ -195,12 +197,12 @@ step-within p {input} {b} is = subst (λ o. Within input b o) (sym is) (go (read
         record {
           used = done .within;
           moves = λ _. done .moves;
-          wrote = fits .wrote;
+          wrote = fits .0;
           line = done .line;
           defaults = done .defaults;
           plan = done .plan;
           table = done .table;
-          out = fits .out;
+          out = fits .1;
         }
     go false e = subst (λ o. Within input b o) (sym (refused-step p input b e)) (refused-within p input b)
 
@@ -214,11 +216,11 @@ end-within p {b} is = subst (λ o. Within [] b o) (sym is) (go (ready p b) refl)
         record {
           used = omega (arith, done .uses);
           moves = λ _ none. absurd (omega arith);
-          wrote = fits .wrote;
+          wrote = fits .0;
           line = done .line;
           defaults = done .defaults;
           plan = done .plan;
           table = done .table;
-          out = fits .out;
+          out = fits .1;
         }
     go false e = subst (λ o. Within [] b o) (sym (refused-end p b e)) (refused-within p [] b)

@@ -12,7 +12,7 @@ use Rattle.formula.specs.Refusals.{count}
 use Rattle.fold.proofs.Rules.{picked as picks}
 use Rattle.table.specs.Parts.{lineFeed, before}
 use Rattle.table_progress.specs.declared.Progress.{Progress}
-use Rattle.table_progress.specs.Steps.{Buffers, mostPrinted, haveRoom, isReachable, ready, heldWith}
+use Rattle.table_progress.specs.Steps.{Buffers, mostPrinted, haveRoom, isWithinBounds, ready, heldWith}
 use Rattle.table_progress.specs.Steps.{Outcome, refusedStep, lineStep, partStep, stepped, stays, withEnd, finished}
 
 -- ---- what ready means
@@ -34,7 +34,7 @@ both t u e f = and-eq-true-iff t u .1 (e, f)
 
 pub is-ready : (p : Progress) (b : Buffers) → ready p b ≡ true → Ready p b
 is-ready p b e =
-    let all = and-eq-true-iff (hasRoom b) (isReachable p) .0 e in
+    let all = and-eq-true-iff (hasRoom b) (isWithinBounds p) .0 e in
     let from-line = and-eq-true-iff (leb 4097 (length (b .line))) _ .0 (all .0) in
     let from-defaults = and-eq-true-iff (leb 4096 (length (b .defaults))) _ .0 (from-line .1) in
     let from-plan = and-eq-true-iff (leb planLength (length (b .plan))) _ .0 (from-defaults .1) in
@@ -54,7 +54,7 @@ is-ready p b e =
 
 pub makes-ready : (p : Progress) (b : Buffers) → Ready p b → ready p b ≡ true
 makes-ready p b r =
-    both (hasRoom b) (isReachable p)
+    both (hasRoom b) (isWithinBounds p)
     (both _ _ (le-leb 4097 (length (b .line)) (r .line))
     (both _ _ (le-leb 4096 (length (b .defaults)) (r .defaults))
     (both _ _ (le-leb planLength (length (b .plan)) (r .plan))

@@ -19,7 +19,7 @@ use Rattle.table.proofs.PartsInLines.{unparted, none-counted}
 use Rattle.table_progress.specs.declared.Progress.{Progress}
 use Rattle.table_progress.specs.declared.Stepped.{Stepped}
 use Rattle.table_progress.specs.Run.{linePrints, endPrints}
-use Rattle.table_progress.specs.Steps.{awaits, ended, Buffers, isReachable, ready, heldWith, over}
+use Rattle.table_progress.specs.Steps.{awaits, ended, Buffers, isWithinBounds, ready, heldWith, over}
 use Rattle.table_progress.specs.Steps.{Outcome, refusedStep, lineStep, partStep, stepped, lastLine, withEnd, finished}
 use Rattle.table_progress.specs.Runs.{lent}
 use Rattle.table_progress.proofs.Holding.{Held, put-front, front-length, wrote-fits}
@@ -45,7 +45,7 @@ feed-counted b (c ∷ s) some = go (eqb c b) some (feed-counted b s)
     go false some rest = rest (λ e. some (ap suc e))
 
 -- ---- what the tests say
--- The buffers are long enough, and the run can have come so far.
+-- The buffers are long enough, and the progress is within bounds.
 pub record Accepted (p : Progress) (b : Buffers) : Type 0 where
   pub is-ready : ready p b ≡ true
   pub room : Ready p b
@@ -54,12 +54,12 @@ module _ (p : Progress) (b : Buffers) {room : Bool} (tested : room ≡ hasRoom b
   pub no-room : not room ≡ true → ready p b ≡ false
   no-room e = rw (← tested, not-true room e)
 
-  module _ (enough : not room ≡ false) {far : Bool} (tested-too : far ≡ isReachable p) where
+  module _ (enough : not room ≡ false) {far : Bool} (tested-too : far ≡ isWithinBounds p) where
     has-room : hasRoom b ≡ true
     has-room = sym tested ∙ not-false room enough
 
-    pub not-reachable : not far ≡ true → ready p b ≡ false
-    not-reachable e = rw (has-room, ← tested-too, not-true far e)
+    pub out-of-bounds : not far ≡ true → ready p b ≡ false
+    out-of-bounds e = rw (has-room, ← tested-too, not-true far e)
 
     pub accepted : not far ≡ false → Accepted p b
     accepted e = let tests : ready p b ≡ true = rw (has-room, sym tested-too ∙ not-false far e) in record { is-ready = tests; room = is-ready p b tests }

@@ -1,4 +1,5 @@
--- A run as a list of calls: steps over whatever chunks of the input, and the end. What one call answers and leaves is in Steps.antt.
+-- A run as a list of calls: steps over whatever chunks of the input, and the end; and where calls may have led. What one call answers and leaves
+-- is in Steps.antt.
 use mathlib.Core.Path.{_≡_}
 use mathlib.Core.Bool.{true}
 use mathlib.Core.List.{List, [], _++_}
@@ -6,7 +7,7 @@ use Prim.Native.Nat.{ℕ, _≤_}
 use lib.ListN.{length, take, drop}
 use Rattle.plan.specs.Measures.{planLength}
 use Rattle.table_progress.specs.declared.Progress.{Progress}
-use Rattle.table_progress.specs.Steps.{Buffers, Outcome, mostPrinted, stepped, finished}
+use Rattle.table_progress.specs.Steps.{started, Buffers, Outcome, mostPrinted, stepped, finished}
 
 -- The buffers that a call is lent.
 abbrev pub lent : (line defaults plan table out : List ℕ) → Buffers
@@ -37,3 +38,13 @@ pub data Runs : Progress → (line defaults input output : List ℕ) → Type 0 
       → Runs (o .answer .progress) (o .buffers .line) (o .buffers .defaults) (drop (o .answer .used) chunk ++ rest) later
       → output ≡ written o ++ later
       → Runs p line defaults input output
+
+-- `Reached line defaults input p line′ defaults′ left`: accepted steps from the start have led to p, with that much of the input left.
+pub data Reached (line defaults input : List ℕ) : Progress → (line′ defaults′ left : List ℕ) → Type 0 where
+  at-start : Reached line defaults input started line defaults input
+  by-step : {p : Progress} {line′ defaults′ left : List ℕ} (plan table out chunk rest : List ℕ) (o : Outcome)
+      → Reached line defaults input p line′ defaults′ left
+      → left ≡ chunk ++ rest
+      → o ≡ stepped p chunk (lent line′ defaults′ plan table out)
+      → o .answer .ok ≡ true
+      → Reached line defaults input (o .answer .progress) (o .buffers .line) (o .buffers .defaults) (drop (o .answer .used) chunk ++ rest)

@@ -77,16 +77,17 @@ pub record Buffers : Type 0 where
 abbrev pub mostPrinted : ℕ
 mostPrinted = 134 + 42 * 4096
 
--- A step is refused where a buffer is too short, or where the progress given is none that a run can have come to.
+-- A step is refused where a buffer is too short, or where the progress is out of bounds.
 abbrev pub haveRoom : ℕ → ℕ → ℕ → ℕ → ℕ → Bool
 haveRoom line defaults plan table out = leb 4097 line && (leb 4096 defaults && (leb planLength plan && (leb 4096 table && leb mostPrinted out)))
 
-abbrev pub isReachable : Progress → Bool
-isReachable p = leb (p .held) 4097 && (leb (p .kept) 4096 && ltb (p .number) (2 ^ 64 - 1))
+-- At most 4,097 bytes held and 4,096 kept, and a number for one more job. Any progress within these is taken, whether a run comes to it or not.
+abbrev pub isWithinBounds : Progress → Bool
+isWithinBounds p = leb (p .held) 4097 && (leb (p .kept) 4096 && ltb (p .number) (2 ^ 64 - 1))
 
 abbrev pub ready : Progress → Buffers → Bool
 ready p b =
-    haveRoom (length (b .line)) (length (b .defaults)) (length (b .plan)) (length (b .table)) (length (b .out)) && isReachable p
+    haveRoom (length (b .line)) (length (b .defaults)) (length (b .plan)) (length (b .table)) (length (b .out)) && isWithinBounds p
 
 -- The line under way with more bytes behind it. The first 4,097 bytes are held: a line that has them is over-long, whatever follows.
 abbrev pub heldWith : ℕ → List ℕ → List ℕ → List ℕ

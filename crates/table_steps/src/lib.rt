@@ -1,5 +1,5 @@
 // A run of the table printer as steps over lent buffers: each takes the input up to a line feed and writes what the line prints.
-// What a whole line does is in `lines`; reading and writing files is the program's.
+// What a whole line does is in `table_lines`; reading and writing files is the program's.
 use table_fields::fields;
 use table_progress::Awaited;
 use table_progress::LineDone;
@@ -11,7 +11,7 @@ ghost use Prim.Native.Nat.{_+_, _-_, _^_, _≤_, _<_};
 ghost use lib.ListN.{length};
 ghost use Rattle.plan.specs.Measures.{planLength};
 ghost use Rattle.table_progress.specs.Runs.{lent};
-ghost use Rattle.table_progress.specs.Steps.{started, haveRoom, isReachable, mostPrinted, over, heldWith, stepped, lastLine, finished};
+ghost use Rattle.table_progress.specs.Steps.{started, haveRoom, isWithinBounds, mostPrinted, over, heldWith, stepped, lastLine, finished};
 
 // One byte more than a line may have.
 const HELD_AT_MOST: usize = 4097;
@@ -58,9 +58,9 @@ fn have_room(line: usize, defaults: usize, plan: usize, table: usize, out: usize
     MOST_PRINTED <= out
 }
 
-// A run can have come so far.
-fn is_reachable(progress: Progress) -> bool
-    ensures { λ r. ⌜ r ≡ isReachable progress ⌝ }
+// The bounds that a call asks of a progress; whether a run comes to it is not asked.
+fn is_within_bounds(progress: Progress) -> bool
+    ensures { λ r. ⌜ r ≡ isWithinBounds progress ⌝ }
 {
     if HELD_AT_MOST < progress.held {
         return false;
@@ -122,7 +122,7 @@ pub fn step(
     ) {
         return refused(progress);
     }
-    if !is_reachable(progress) {
+    if !is_within_bounds(progress) {
         return refused(progress);
     }
     let end = fields::find(input, 0, b'\n');
@@ -211,7 +211,7 @@ pub fn finish(
     ) {
         return refused(progress);
     }
-    if !is_reachable(progress) {
+    if !is_within_bounds(progress) {
         return refused(progress);
     }
     let done = last_line(progress, line, defaults, plan, table, out);

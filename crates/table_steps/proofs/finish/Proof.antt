@@ -4,7 +4,7 @@ use native.Mathlib.Omega.{arith}
 use borrow.Author.Needs.{needs}
 use Rattle.table_progress.proofs.Holding.{rear-fits}
 use Rattle.table_progress.specs.Runs.{lent}
-use Rattle.table_progress.proofs.StepsTaken.{no-room, not-reachable, accepted, end-refused, end-done}
+use Rattle.table_progress.proofs.StepsTaken.{no-room, out-of-bounds, accepted, end-refused, end-done}
 use Rattle.table_steps.proofs.finish.Statement.{statement}
 use Rattle.table_steps.proofs.finish.Tie as tie
 
@@ -21,8 +21,8 @@ returns c =
     end-refused (args .progress) b (c .refused .ensures)
     (no-room (args .progress) b (c .before .before .have-room .ensures) (c .before .if1 .taken))
 
-is-reachable-requires : tie.Need-is-reachable-requires
-is-reachable-requires c κs = search needs
+is-within-bounds-requires : tie.Need-is-within-bounds-requires
+is-within-bounds-requires c κs = search needs
 
 refused-requires-2 : tie.Need-refused-requires-2
 refused-requires-2 c κs = search needs
@@ -32,8 +32,8 @@ returns-2 c =
     let args = c .before .before .before .before .before .before .before .before .before .before .args in
     let b = lent (args .line .now) (args .defaults .now) (args .plan .now) (args .table .now) (args .out .now) in
     end-refused (args .progress) b (c .refused2 .ensures)
-    (not-reachable (args .progress) b (c .before .before .before .before .have-room .ensures) (c .before .before .before .if1 .left)
-    (c .before .before .is-reachable .ensures) (c .before .if2 .taken))
+    (out-of-bounds (args .progress) b (c .before .before .before .before .have-room .ensures) (c .before .before .before .if1 .left)
+    (c .before .before .is-within-bounds .ensures) (c .before .if2 .taken))
 
 last-line-requires : tie.Need-last-line-requires
 last-line-requires c κs =
@@ -42,7 +42,7 @@ last-line-requires c κs =
     let b = lent (args .line .now) (args .defaults .now) (args .plan .now) (args .table .now) (args .out .now) in
     let so =
     accepted (args .progress) b (tests .before .before .before .have-room .ensures) (tests .before .before .if1 .left)
-    (tests .before .is-reachable .ensures) (tests .if2 .left) in (
+    (tests .before .is-within-bounds .ensures) (tests .if2 .left) in (
       omega (arith, so .room .held, so .room .line),
       (so .room .defaults, (so .room .kept, (so .room .number, (so .room .plan, (so .room .table, so .room .out))))),
     )
@@ -96,7 +96,7 @@ returns-3 c =
     let b = lent (args .line .now) (args .defaults .now) (args .plan .now) (args .table .now) (args .out .now) in
     let so =
     accepted (args .progress) b (tests .before .before .before .have-room .ensures) (tests .before .before .if1 .left)
-    (tests .before .is-reachable .ensures) (tests .if2 .left) in
+    (tests .before .is-within-bounds .ensures) (tests .if2 .left) in
     end-done (args .progress) b (so .is-ready) (omega arith) (last .ensures .0)
     (c .before .before .before .end-input .ensures (reached .number) (reached .kept) (last .last .1 .1 .0)) (c .ended .ensures)
 
@@ -107,7 +107,7 @@ finish-spec =
     have-room-requires
     refused-requires
     returns
-    is-reachable-requires
+    is-within-bounds-requires
     refused-requires-2
     returns-2
     last-line-requires

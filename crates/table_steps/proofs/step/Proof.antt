@@ -4,7 +4,7 @@ use borrow.Author.Needs.{needs}
 use Rattle.table.proofs.PartsFound.{found-inside}
 use Rattle.table_progress.proofs.Holding.{held-at-most}
 use Rattle.table_progress.specs.Runs.{lent}
-use Rattle.table_progress.proofs.StepsTaken.{no-room, not-reachable, accepted, step-refused, step-within-line, step-whole-line}
+use Rattle.table_progress.proofs.StepsTaken.{no-room, out-of-bounds, accepted, step-refused, step-within-line, step-whole-line}
 use Rattle.table_steps.proofs.step.Statement.{statement}
 use Rattle.table_steps.proofs.step.Tie as tie
 
@@ -21,8 +21,8 @@ returns c =
     step-refused (args .progress) b (args .input .now) (c .refused .ensures)
     (no-room (args .progress) b (c .before .before .have-room .ensures) (c .before .if1 .taken))
 
-is-reachable-requires : tie.Need-is-reachable-requires
-is-reachable-requires c κs = search needs
+is-within-bounds-requires : tie.Need-is-within-bounds-requires
+is-within-bounds-requires c κs = search needs
 
 refused-requires-2 : tie.Need-refused-requires-2
 refused-requires-2 c κs = search needs
@@ -32,8 +32,8 @@ returns-2 c =
     let args = c .before .before .before .before .before .before .before .before .before .before .before .args in
     let b = lent (args .line .now) (args .defaults .now) (args .plan .now) (args .table .now) (args .out .now) in
     step-refused (args .progress) b (args .input .now) (c .refused2 .ensures)
-    (not-reachable (args .progress) b (c .before .before .before .before .have-room .ensures) (c .before .before .before .if1 .left)
-    (c .before .before .is-reachable .ensures) (c .before .if2 .taken))
+    (out-of-bounds (args .progress) b (c .before .before .before .before .have-room .ensures) (c .before .before .before .if1 .left)
+    (c .before .before .is-within-bounds .ensures) (c .before .if2 .taken))
 
 find-requires : tie.Need-find-requires
 find-requires c κs = search needs
@@ -56,7 +56,7 @@ hold-requires c κs =
     let b = lent (args .line .now) (args .defaults .now) (args .plan .now) (args .table .now) (args .out .now) in
     let so =
     accepted (args .progress) b (tests .before .before .before .have-room .ensures) (tests .before .before .if1 .left)
-    (tests .before .is-reachable .ensures) (tests .if2 .left) in
+    (tests .before .is-within-bounds .ensures) (tests .if2 .left) in
     (so .room .line, so .room .held)
 
 same-length : tie.Need-same-length
@@ -70,7 +70,7 @@ returns-3 c =
     let b = lent (args .line .now) (args .defaults .now) (args .plan .now) (args .table .now) (args .out .now) in
     let so =
     accepted (args .progress) b (tests .before .before .before .have-room .ensures) (tests .before .before .if1 .left)
-    (tests .before .is-reachable .ensures) (tests .if2 .left) in
+    (tests .before .is-within-bounds .ensures) (tests .if2 .left) in
     step-within-line (args .progress) b (args .input .now) (so .is-ready) (found .result) (found .ensures)
     (c .before .before .before .hold .ensures) (c .if3 .taken)
 
@@ -93,7 +93,7 @@ part-end-line-end c =
     let b = lent (args .line .now) (args .defaults .now) (args .plan .now) (args .table .now) (args .out .now) in
     let so =
     accepted (args .progress) b (tests .before .before .before .have-room .ensures) (tests .before .before .if1 .left)
-    (tests .before .is-reachable .ensures) (tests .if2 .left) in
+    (tests .before .is-within-bounds .ensures) (tests .if2 .left) in
     omega (arith, so .room .line, held-at-most (args .progress .held) (args .line .now) _ (c .before .before .before .before .hold .ensures))
 
 end-line-requires : tie.Need-end-line-requires
@@ -103,7 +103,7 @@ end-line-requires c κs =
     let b = lent (args .line .now) (args .defaults .now) (args .plan .now) (args .table .now) (args .out .now) in
     let so =
     accepted (args .progress) b (tests .before .before .before .have-room .ensures) (tests .before .before .if1 .left)
-    (tests .before .is-reachable .ensures) (tests .if2 .left) in
+    (tests .before .is-within-bounds .ensures) (tests .if2 .left) in
     (so .room .defaults, (so .room .kept, (so .room .number, (so .room .plan, (so .room .table, omega (arith, so .room .out))))))
 
 same-length-2 : tie.Need-same-length-2
@@ -130,7 +130,7 @@ returns-4 c =
     let b = lent (args .line .now) (args .defaults .now) (args .plan .now) (args .table .now) (args .out .now) in
     let so =
     accepted (args .progress) b (tests .before .before .before .have-room .ensures) (tests .before .before .if1 .left)
-    (tests .before .is-reachable .ensures) (tests .if2 .left) in
+    (tests .before .is-within-bounds .ensures) (tests .if2 .left) in
     step-whole-line (args .progress) b (args .input .now) (so .is-ready) (found .result) (found .ensures)
     (whole .before .before .before .hold .ensures) (whole .if3 .left)
     (c .before .before .before .before .before .before .before .before .before .end-line .ensures)
@@ -142,7 +142,7 @@ step-spec =
     have-room-requires
     refused-requires
     returns
-    is-reachable-requires
+    is-within-bounds-requires
     refused-requires-2
     returns-2
     find-requires

@@ -1,8 +1,8 @@
--- `is_reachable` tests one number after the other.
+-- `is_within_bounds` tests one number after the other.
 use native.Mathlib.Omega.{arith}
 use borrow.Author.Tests.{le-leb, lt-leb}
-use Rattle.table_steps.proofs.is_reachable.Statement.{statement}
-use Rattle.table_steps.proofs.is_reachable.Tie as tie
+use Rattle.table_steps.proofs.is_within_bounds.Statement.{statement}
+use Rattle.table_steps.proofs.is_within_bounds.Tie as tie
 
 returns : tie.Need-returns
 returns c = rw (lt-leb (c .before .before .args .progress .held) 4097 (omega arith))
@@ -17,5 +17,5 @@ returns-3 c =
     let progress = c .before .before .before .before .before .args .progress in
     rw (le-leb (progress .held) 4097 (omega arith), le-leb (progress .kept) 4096 (omega arith))
 
-pub is-reachable-spec : {M : Type 1} → statement M
-is-reachable-spec = tie.close (tie.spec returns returns-2 returns-3)
+pub is-within-bounds-spec : {M : Type 1} → statement M
+is-within-bounds-spec = tie.close (tie.spec returns returns-2 returns-3)
