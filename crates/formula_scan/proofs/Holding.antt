@@ -151,7 +151,7 @@ formula {t} {l} E = go (E .pending) (E .text) (E .whole) (E .kind)
     go at-start s e M = subst (λ x. Formula x t) e M
 
 -- ---- numbers: digits that don't begin with 0
-data Count : List ℕ → ℕ → Type 0 where
+pub data Count : List ℕ → ℕ → Type 0 where
   count : {d : ℕ} {ds : List ℕ} {v : ℕ} → 49 ≤ d → d ≤ 57 → Digits ds → v ≡ digitsFrom 0 (d ∷ ds) → Count (d ∷ ds) v
 
 zero-digit : Digit 48
@@ -160,16 +160,16 @@ zero-digit = (omega arith, omega arith)
 other-digit : {c : ℕ} → 49 ≤ c → c ≤ 57 → Digit c
 other-digit low high = (omega arith, high)
 
-first-digit : {c : ℕ} → 49 ≤ c → c ≤ 57 → Count (c ∷ []) (c - 48)
+pub first-digit : {c : ℕ} → 49 ≤ c → c ≤ 57 → Count (c ∷ []) (c - 48)
 unfolding digitsFrom
 first-digit {c} low high = count {v = c - 48} low high no-digit (omega arith)
 
-next-digit : {s : List ℕ} {v c : ℕ} → Count s v → Digit c → Count (s ++ c ∷ []) (10 * v + (c - 48))
+pub next-digit : {s : List ℕ} {v c : ℕ} → Count s v → Digit c → Count (s ++ c ∷ []) (10 * v + (c - 48))
 unfolding digitsFrom
 next-digit {c = c} (count {d} {ds} low high rest e) h =
     count low high (digits-both rest (digit h no-digit)) (ap (λ x. 10 * x + (c - 48)) e ∙ sym (value-both 0 (d ∷ ds) (c ∷ [])))
 
-counted : {s : List ℕ} {v : ℕ} → Count s v → Number s v
+pub counted : {s : List ℕ} {v : ℕ} → Count s v → Number s v
 counted (count {d} {ds} low high rest e) = subst (λ x. Number (d ∷ ds) x) (sym e) (digits low high rest)
 
 -- A number that began at p, and an atom's literal exponent with its ^ at p.

@@ -1,21 +1,25 @@
 -- Each way through a reader, as its contract says it: what the scan does on the bytes that the reader took.
-use mathlib.Core.Path.{_≡_, refl, sym, ap, ap₂, _∙_}
+use mathlib.Core.Path.{_≡_, refl, sym, ap, ap₂, subst, _∙_}
 use mathlib.Core.Bool.{Bool, true, false, _&&_}
-use mathlib.Core.List.{List}
+use mathlib.Core.List.{List, [], _∷_, _++_}
 use Prim.Native.Nat.{ℕ, zero, suc, _+_, _-_, _*_, _%_, _^_, _≤_, _<_}
 use native.Mathlib.Numerals.{add-one}
+use native.Mathlib.Nat.{sub-self}
 use native.Mathlib.Omega.{arith}
 use lib.Dec.{leb}
-use lib.ListN.{length, getD, drop}
+use lib.ListN.{length, getD, take, drop, length-drop}
+use lib.Seq.{take-suc, getD-drop}
 use borrow.Author.Tests.{leb-true, le-leb, lt-leb, lt-ltb}
 use Rattle.formula_scan.specs.declared.Found.{Found}
 use Rattle.formula_scan.specs.declared.Numeral.{Numeral}
 use Rattle.formula.specs.Bytes.{Digit}
+use Rattle.formula.specs.Grammar.{Number, nought}
 use Rattle.formula.specs.Tree.{Tree, number, variable, literalPower, nodes}
 use Rattle.formula_scan.specs.Scan.{Byte, plusByte, minusByte, starByte, caretByte, openByte, closeByte, xByte, zeroByte, digitByte, otherByte, byteOf, PendingSum, PendingProduct, Level, level, Outer, State, operand, inNumber, atomed, afterCaret, inLiteral, powered, afterPower, afterAtom, afterDigit, afterLiteralDigit, beforeOperand, beforeExponent, step, ending, run}
 use Rattle.formula_scan.specs.Readers.{kept, put, wroteMinus, finding, NumberRead, MinusSigns}
 use Rattle.formula_scan.proofs.Scanning.{Is, byte-is, byte-digit, takes}
 use Rattle.formula_scan.proofs.Steps.{inside, run-byte, run-same}
+use Rattle.formula_scan.proofs.Holding.{Count, first-digit, next-digit, counted}
 use Rattle.formula_scan.specs.Readers
 
 -- ---- numbers
@@ -66,6 +70,19 @@ literal-done l at lv t p n none = run-same (inLiteral lv t p n) (powered lv (lit
     go (digitByte d) i = absurd (none (omega arith))
     go otherByte i = refl
 
+-- The bytes from a place on, with one byte more at their end.
+one-more : (l : List ℕ) (at p : ℕ) → at ≤ p → p < length l → take (p + 1 - at) (drop at l) ≡ take (p - at) (drop at l) ++ getD l p 0 ∷ []
+one-more l at p h k =
+    ap (λ n. take n (drop at l)) next
+    ∙ take-suc (drop at l) (p - at) 0 (omega (arith, length-drop at l))
+    ∙ ap (λ c. take (p - at) (drop at l) ++ c ∷ []) (getD-drop at l (p - at) 0 ∙ ap (λ n. getD l n 0) (omega arith))
+  where
+    next : p + 1 - at ≡ suc (p - at)
+    next = omega arith
+
+first-byte : (l : List ℕ) (at : ℕ) → at < length l → take (at + 1 - at) (drop at l) ≡ getD l at 0 ∷ []
+first-byte l at h = one-more l at at (omega arith) h ∙ ap (λ n. take n (drop at l) ++ getD l at 0 ∷ []) (sub-self at)
+
 -- The digits so far.
 pub record NumberSoFar (l : List ℕ) (at : ℕ) (r : Numeral) : Type 0 where
   pub v : ℕ
@@ -77,20 +94,26 @@ pub record NumberSoFar (l : List ℕ) (at : ℕ) (r : Numeral) : Type 0 where
   pub as-atom : (lv : Level) → run (operand lv) at (drop at l) ≡ run (inNumber lv at v) (r .at) (drop (r .at) l)
   pub as-exponent : (lv : Level) (t : Tree) (p : ℕ)
       → run (afterCaret lv t p) at (drop at l) ≡ run (inLiteral lv t p v) (r .at) (drop (r .at) l)
+  pub spelt : Count (take (r .at - at) (drop at l)) v
 
 pub number-nought : (l : List ℕ) (at d : ℕ) → d + 48 ≡ getD l at 0 → d ≡ 0
     → NumberRead l at (record { at = at + 1; value = d; over = false; odd = d % 2 })
 unfolding step beforeOperand beforeExponent byteOf
-number-nought l at d e nought = record {
+number-nought l at d e none = record {
   v = 0;
-  value-kept = nought;
+  value-kept = none;
   value-over = refl;
-  value-odd = ap (λ z. z % 2) nought;
+  value-odd = ap (λ z. z % 2) none;
   onward = omega arith;
   inside = omega (arith, inside l at (omega arith));
   as-atom = λ lv. run-byte (operand lv) l at 48 (omega arith) (omega arith);
   as-exponent = λ lv t p. run-byte (afterCaret lv t p) l at 48 (omega arith) (omega arith);
+  spelt = subst (λ s. Number s 0) (sym (first-byte l at (inside l at (omega arith)) ∙ ap (λ c. c ∷ []) zeroth)) nought;
+  all = λ high. absurd (omega arith);
 }
+  where
+    zeroth : getD l at 0 ≡ 48
+    zeroth = omega arith
 
 pub number-starts : (l : List ℕ) (at d : ℕ) → d + 48 ≡ getD l at 0 → d ≤ 9 → (d ≡ 0 → ⊥)
     → NumberSoFar l at (record { at = at + 1; value = d; over = false; odd = d % 2 })
@@ -104,8 +127,13 @@ number-starts l at d e small some = record {
   inside = omega (arith, inside l at (omega arith));
   as-atom = λ lv. run-byte (operand lv) l at (d + 48) (sym e) (omega arith) ∙ ap (λ b. run (beforeOperand lv at b) (at + 1) (drop (at + 1) l)) digit;
   as-exponent = λ lv t p. run-byte (afterCaret lv t p) l at (d + 48) (sym e) (omega arith) ∙ ap (λ b. run (beforeExponent lv t p at b) (at + 1) (drop (at + 1) l)) digit;
+  spelt = subst (λ s. Count s d) (sym (first-byte l at (inside l at (omega arith)) ∙ ap (λ c. c ∷ []) (sym e)))
+      (subst (λ v. Count ((d + 48) ∷ []) v) value (first-digit (omega arith) (omega arith)));
 }
   where
+    value : d + 48 - 48 ≡ d
+    value = omega arith
+
     digit : byteOf (d + 48) ≡ digitByte d
     digit = byte-digit (d + 48) (omega arith) (omega arith) ∙ ap (λ z. digitByte z) (omega arith)
 
@@ -125,8 +153,19 @@ number-goes-on l at r more d so e small push = record {
   as-exponent = λ lv t p. so .as-exponent lv t p ∙ run-byte (inLiteral lv t p (so .v)) l (r .at) (d + 48) (sym e) (omega arith)
       ∙ ap (λ S. run S (r .at + 1) (drop (r .at + 1) l)) (taken (λ v. inLiteral lv t p v) (λ v q. refl) (λ v q k. refl))
       ∙ ap (λ n. run (inLiteral lv t p (10 * so .v + d)) n (drop n l)) (sym (push .onward));
+  spelt = subst (λ s. Count s (10 * so .v + d)) (sym longer)
+      (subst (λ v. Count (take (r .at - at) (drop at l) ++ (d + 48) ∷ []) v) value (next-digit (so .spelt) (omega arith, omega arith)));
 }
   where
+    longer : take (more .at - at) (drop at l) ≡ take (r .at - at) (drop at l) ++ (d + 48) ∷ []
+    longer =
+        ap (λ n. take (n - at) (drop at l)) (push .onward)
+        ∙ one-more l at (r .at) (omega (arith, so .onward)) (inside l (r .at) (omega arith))
+        ∙ ap (λ c. take (r .at - at) (drop at l) ++ c ∷ []) (sym e)
+
+    value : 10 * so .v + (d + 48 - 48) ≡ 10 * so .v + d
+    value = omega arith
+
     taken : (holding : ℕ → State) → ((v p : ℕ) → step (holding v) p zeroByte ≡ holding (10 * v + 0))
         → ((v p k : ℕ) → step (holding v) p (digitByte k) ≡ holding (10 * v + k))
         → step (holding (so .v)) (r .at) (byteOf (d + 48)) ≡ holding (10 * so .v + d)
@@ -142,6 +181,8 @@ number-ends l at r so none = record {
   inside = so .inside;
   as-atom = λ lv. so .as-atom lv ∙ number-done l (r .at) lv at (so .v) none;
   as-exponent = λ lv t p. so .as-exponent lv t p ∙ literal-done l (r .at) lv t p (so .v) none;
+  spelt = counted (so .spelt);
+  all = λ high. none;
 }
 
 -- ---- minus signs

@@ -5,8 +5,9 @@ use mathlib.Core.Bool.{Bool, true, false, cond, _||_}
 use mathlib.Core.List.{List}
 use Prim.Native.Nat.{ℕ, zero, suc, _+_, _-_, _*_, _/_, _%_, _^_, _≤_, _<_, min}
 use lib.Dec.{eqb, leb, ltb}
-use lib.ListN.{length, getD, drop, set}
-use Rattle.formula.specs.Bytes.{star, plusSign, minusSign}
+use lib.ListN.{length, getD, take, drop, set}
+use Rattle.formula.specs.Bytes.{star, plusSign, minusSign, Digit}
+use Rattle.formula.specs.Grammar.{Number}
 use Rattle.formula.specs.Words.{mostNodes}
 use Rattle.formula_scan.specs.declared.Found.{Found}
 use Rattle.formula_scan.specs.declared.Numeral.{Numeral}
@@ -170,7 +171,8 @@ AtomRead = Read Level operand atomed Anything
 abbrev pub BracketRead : List ℕ → ℕ → ℕ → ℕ → List ℕ → Found → List ℕ → Type 0
 BracketRead l at = Read Enclosing opened enclosed Anything l (at + 1)
 
--- A number at a place: its value v, and where the scan stands after it, as an atom and as a literal exponent.
+-- A number at a place: its value v, where the scan stands after it, as an atom and as a literal exponent, and its digits, which are 0 alone or
+-- all that follow.
 pub record NumberRead (l : List ℕ) (at : ℕ) (r : Numeral) : Type 0 where
   pub v : ℕ
   pub value-kept : r .value ≡ kept 64 v
@@ -181,6 +183,8 @@ pub record NumberRead (l : List ℕ) (at : ℕ) (r : Numeral) : Type 0 where
   pub as-atom : (lv : Level) → run (operand lv) at (drop at l) ≡ run (atomed lv (number at v)) (r .at) (drop (r .at) l)
   pub as-exponent : (lv : Level) (t : Tree) (p : ℕ)
       → run (afterCaret lv t p) at (drop at l) ≡ run (powered lv (literalPower t p v)) (r .at) (drop (r .at) l)
+  pub spelt : Number (take (r .at - at) (drop at l)) v
+  pub all : 49 ≤ getD l at 0 → Digit (getD l (r .at) 0) → ⊥
 
 -- One more digit: whatever value v the number has so far, it has 10 * v + digit then.
 pub record Pushed (number : Numeral) (digit : ℕ) (r : Numeral) : Type 0 where

@@ -27,12 +27,6 @@ unfolding count
 none-below no-digit b h = refl
 none-below (digit {d} {ds} small more) b h = rw (ne-eqb d b (λ e. omega (arith, e, small))) (none-below more b h)
 
--- The value of digits is never smaller than that of those before them.
-pub value-grows : (v : ℕ) (s : List ℕ) → v ≤ digitsFrom v s
-unfolding digitsFrom
-value-grows v [] = omega arith
-value-grows v (d ∷ s) = omega (arith, value-grows (10 * v + (d - 48)) s)
-
 -- ---- one digit, or the last digit behind the others
 lone : (k n : ℕ) → n < 10 → lastDigits (suc k) n ≡ (48 + n) ∷ []
 unfolding lastDigits
