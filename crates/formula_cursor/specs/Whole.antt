@@ -9,15 +9,15 @@ use Rattle.formula_scan.specs.declared.Found.{Found}
 use Rattle.formula_scan.specs.Readers.{noFault, stopping, SumRead}
 
 -- What is found of the sum that begins at a place, with no node and no fault before it and no tree to write into.
-abbrev pub Scanned : List ℕ → ℕ → Found → Type 0
-Scanned l place r = SumRead l place 0 noFault [] r []
+abbrev pub Scanned : ℕ → List ℕ → ℕ → Found → Type 0
+Scanned w l place r = SumRead w l place 0 noFault [] r []
 
 -- What was found of a sum, if there is one and no byte of the text is left from a place on; else no formula goes on past that place.
 abbrev pub ifEnded : List ℕ → ℕ → Found → Found
 ifEnded l place sum = cond (sum .ok && leb (length l) place) sum (stopping place)
 
 -- What is found of a whole text: of the sum that begins at place 0, if the text ends with it.
-pub record WholeRead (l : List ℕ) (r : Found) : Type 0 where
+pub record WholeRead (w : ℕ) (l : List ℕ) (r : Found) : Type 0 where
   pub sum : Found
-  pub scanned : Scanned l 0 sum
+  pub scanned : Scanned w l 0 sum
   pub is : r ≡ ifEnded l (sum .at) sum

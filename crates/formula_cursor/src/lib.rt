@@ -17,7 +17,7 @@ pub struct Cursor<'a> {
 // The sum that begins at a place, read with no tree to write into.
 fn sum_from(text: &[u8], place: usize) -> Found
     requires { ⌜ place ≤ length (now text) ⌝ }
-    ensures { λ r. ⌜ Scanned (now (text .entry)) place r ⌝ }
+    ensures { λ r. ⌜ Scanned 64 (now (text .entry)) place r ⌝ }
 {
     let mut none = [0u64; 1];
     formula_readers::read_sum(text, &mut none[0..0], place, 0, faults::NO_FAULT)
@@ -56,7 +56,7 @@ pub fn past<'a>(cursor: Cursor<'a>, sum: Found) -> Cursor<'a>
 // The sum that begins at the cursor's place.
 pub fn read_sum<'a>(cursor: Cursor<'a>) -> Found
     requires { ⌜ cursor .place ≤ length (now (cursor .text)) ⌝ }
-    ensures { λ r. ⌜ Scanned (now (cursor .entry .text)) (cursor .entry .place) r ⌝ }
+    ensures { λ r. ⌜ Scanned 64 (now (cursor .entry .text)) (cursor .entry .place) r ⌝ }
 {
     sum_from(cursor.text, cursor.place)
 }
@@ -70,7 +70,7 @@ pub fn if_at_end<'a>(cursor: Cursor<'a>, sum: Found) -> Found
 
 // A whole text, read by a cursor from its start to its end.
 pub fn read_whole(text: &[u8]) -> Found
-    ensures { λ r. ⌜ WholeRead (now (text .entry)) r ⌝ }
+    ensures { λ r. ⌜ WholeRead 64 (now (text .entry)) r ⌝ }
 {
     let start = at_start(text);
     let sum = read_sum(start);

@@ -32,7 +32,7 @@ pub fn is_digit(byte: u8) -> bool
 fn pushed(number: Numeral, digit: u64) -> Numeral
     requires { ⌜ digit < 10 ⌝ }
     requires { ⌜ number .at < 2 ^ 63 ⌝ }
-    ensures { λ r. ⌜ Pushed number digit r ⌝ }
+    ensures { λ r. ⌜ Pushed 64 number digit r ⌝ }
 {
     let at = number.at + 1;
     let value = number.value;
@@ -63,7 +63,7 @@ fn pushed(number: Numeral, digit: u64) -> Numeral
 // The number that begins with the digit at a place: 0 alone, or all digits that follow.
 pub fn read_number(text: &[u8], at: usize) -> Numeral
     requires { ⌜ Digit (getD (now text) at 0) ⌝ }
-    ensures { λ r. ⌜ NumberRead (now (text .entry)) at r ⌝ }
+    ensures { λ r. ⌜ NumberRead 64 (now (text .entry)) at r ⌝ }
 {
     let first = byte_at(text, at);
     let digit = digit_of(first);

@@ -50,7 +50,7 @@ fn is_sign(byte: u8) -> bool
 fn read_bracket(text: &[u8], tree: &mut [u64], at: usize, nodes: usize, fault: u64) -> Found
     requires { ⌜ at < length (now text) ⌝ }
     requires { ⌜ nodes ≤ at ⌝ }
-    ensures { λ r. ⌜ BracketRead (now (text .entry)) at nodes fault (now (tree .entry)) r (now (tree .exit)) ⌝ }
+    ensures { λ r. ⌜ BracketRead 64 (now (text .entry)) at nodes fault (now (tree .entry)) r (now (tree .exit)) ⌝ }
 {
     let sum = read_sum(text, tree, at + 1, nodes, fault);
     let end = sum.at;
@@ -68,7 +68,7 @@ fn read_atom(text: &[u8], tree: &mut [u64], at: usize, nodes: usize, fault: u64)
     requires { ⌜ at ≤ length (now text) ⌝ }
     requires { ⌜ nodes ≤ at ⌝ }
     requires { ⌜ (getD (now text) at 0 ≡ minusSign → ⊥) ⌝ }
-    ensures { λ r. ⌜ AtomRead (now (text .entry)) at nodes fault (now (tree .entry)) r (now (tree .exit)) ⌝ }
+    ensures { λ r. ⌜ AtomRead 64 (now (text .entry)) at nodes fault (now (tree .entry)) r (now (tree .exit)) ⌝ }
 {
     let byte = byte_at(text, at);
     if byte == b'(' {
@@ -106,7 +106,7 @@ fn read_power(text: &[u8], tree: &mut [u64], at: usize, nodes: usize, fault: u64
     requires { ⌜ at ≤ length (now text) ⌝ }
     requires { ⌜ nodes ≤ at ⌝ }
     requires { ⌜ (getD (now text) at 0 ≡ minusSign → ⊥) ⌝ }
-    ensures { λ r. ⌜ PowerRead (now (text .entry)) at nodes fault (now (tree .entry)) r (now (tree .exit)) ⌝ }
+    ensures { λ r. ⌜ PowerRead 64 (now (text .entry)) at nodes fault (now (tree .entry)) r (now (tree .exit)) ⌝ }
 {
     let base = read_atom(text, tree, at, nodes, fault);
     if !base.ok {
@@ -140,7 +140,7 @@ fn read_power(text: &[u8], tree: &mut [u64], at: usize, nodes: usize, fault: u64
 fn read_factor(text: &[u8], tree: &mut [u64], at: usize, nodes: usize, fault: u64) -> Found
     requires { ⌜ at ≤ length (now text) ⌝ }
     requires { ⌜ nodes ≤ at ⌝ }
-    ensures { λ r. ⌜ PowerRead (now (text .entry)) at nodes fault (now (tree .entry)) r (now (tree .exit)) ⌝ }
+    ensures { λ r. ⌜ PowerRead 64 (now (text .entry)) at nodes fault (now (tree .entry)) r (now (tree .exit)) ⌝ }
 {
     let first = after_minus_signs(text, at);
     let power = read_power(text, tree, first, nodes, fault);
@@ -154,7 +154,7 @@ fn read_factor(text: &[u8], tree: &mut [u64], at: usize, nodes: usize, fault: u6
 fn read_product(text: &[u8], tree: &mut [u64], at: usize, nodes: usize, fault: u64) -> Found
     requires { ⌜ at ≤ length (now text) ⌝ }
     requires { ⌜ nodes ≤ at ⌝ }
-    ensures { λ r. ⌜ ProductRead (now (text .entry)) at nodes fault (now (tree .entry)) r (now (tree .exit)) ⌝ }
+    ensures { λ r. ⌜ ProductRead 64 (now (text .entry)) at nodes fault (now (tree .entry)) r (now (tree .exit)) ⌝ }
 {
     let mut left = starting(at, nodes, fault);
     let mut joined = false;
@@ -177,7 +177,7 @@ fn read_product(text: &[u8], tree: &mut [u64], at: usize, nodes: usize, fault: u
 pub fn read_sum(text: &[u8], tree: &mut [u64], at: usize, nodes: usize, fault: u64) -> Found
     requires { ⌜ at ≤ length (now text) ⌝ }
     requires { ⌜ nodes ≤ at ⌝ }
-    ensures { λ r. ⌜ SumRead (now (text .entry)) at nodes fault (now (tree .entry)) r (now (tree .exit)) ⌝ }
+    ensures { λ r. ⌜ SumRead 64 (now (text .entry)) at nodes fault (now (tree .entry)) r (now (tree .exit)) ⌝ }
 {
     let mut left = starting(at, nodes, fault);
     let mut sign = 0;

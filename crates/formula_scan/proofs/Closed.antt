@@ -11,7 +11,7 @@ use Rattle.formula.specs.Grammar.{Formula}
 use Rattle.formula.specs.Refusals.{StopsAt}
 use Rattle.formula_scan.specs.Scan.{byteOf, negatives, productWith, sumWith, closed, afterPower, afterAtom, afterDigit, afterLiteralDigit, beforeOperand, beforeExponent, step, Outcome, reads, stops, ended, ending, run, scanned}
 use Rattle.formula_scan.specs.Readers.{parity, faulted}
-use Rattle.formula_scan.specs.Verdict.{Verdict, refused, accepted, deepPlace, outcomeVerdict, verdict}
+use Rattle.formula_scan.specs.Verdict.{Verdict, refused, accepted, deepPlace, outcomeVerdict, verdictFor, verdict}
 use Rattle.formula_scan.proofs.GrammarScan.{sound, stops-at}
 
 -- What the scan makes of a text, unfolded all the way: name it on the `unfolding` line, and `refl` decides.
@@ -92,7 +92,7 @@ x-in-brackets-left-open = leaves _ _ refl
 -- ---- the whole answer
 -- The answer to a text, unfolded all the way: name it on the `unfolding` line, and `refl` decides.
 unfoldable pub judges : List ℕ → Verdict
-unfolding decides nodes holdsX parity faulted deepPlace outcomeVerdict verdict
+unfolding decides nodes holdsX parity faulted deepPlace outcomeVerdict verdictFor
 judges s = verdict s
 
 pub even-base-refused : verdict (bytes "2^(3)") ≡ refused 8 1

@@ -20,23 +20,23 @@ use Rattle.formula_scan.proofs.Answers.{accepted-fits}
 
 -- ---- 5 to 8
 module _ (l : List ℕ) (short : length l ≤ 1024) (flat : (q : ℕ) → TooDeep l q → ⊥) (out : List ℕ) (r : Found) (now : List ℕ)
-    (whole : WholeBracket l 0 0 noFault out r now) (ends : length l ≤ r .at) (c : ℕ)
+    (whole : WholeBracket 64 l 0 0 noFault out r now) (ends : length l ≤ r .at) (c : ℕ)
     (least : c ≡ min (r .fault) (cond (ltb mostNodes (r .nodes)) (faultCode 7 0) noFault)) where
-  coded : c ≡ code (whole .t)
+  coded : c ≡ code 64 (whole .t)
   coded =
       least
       ∙ ap₂ (λ f k. min f (cond (ltb mostNodes k) (faultCode 7 0) noFault)) (ap (λ (x : Found). x .fault) (whole .is)) (whole .counted ∙ zero-add (nodes (whole .t)))
 
   pub judged-fault : c < noFault → Judged 64 l (record { number = c / 2048; place = c % 2048 })
   judged-fault h =
-      rw coded (refuses (tree-refused l (whole .t) (whole-formula l noFault out r now whole ends) short flat (omega (arith, coded))))
+      rw coded (refuses (tree-refused 64 (omega arith) l (whole .t) (whole-formula l noFault out r now whole ends) short flat (omega (arith, coded))))
 
   pub judged-faultless : noFault ≤ c → Judged 64 l (record { number = 0; place = 0 })
-  judged-faultless h = accepts (tree-accepted l (whole .t) (whole-formula l noFault out r now whole ends) short flat (omega (arith, coded)))
+  judged-faultless h = accepts (tree-accepted 64 (omega arith) l (whole .t) (whole-formula l noFault out r now whole ends) short flat (omega (arith, coded)))
 
 -- ---- the words of an accepted text
 pub accepted-written : (l lent cleared part : List ℕ) (r : Found) (t : Tree) → cleared ≡ replicate treeLength 0 ++ drop treeLength lent
-    → SumRead l 0 0 noFault (take nodesLength (drop 1 cleared)) r part → Accepted 64 l t
+    → SumRead 64 l 0 0 noFault (take nodesLength (drop 1 cleared)) r part → Accepted 64 l t
     → set (take 1 cleared ++ (part ++ drop nodesLength (drop 1 cleared))) 0 (r .nodes) ≡ treeWords t ++ drop treeLength lent
 accepted-written l lent cleared part r t e read accepted =
     tree-put-back lent cleared part (r .nodes) e

@@ -113,8 +113,8 @@ module _ (w : ℕ) where
   faulted-least (in-exponent {a = a} k) f h = faulted-least k _ (le-trans (min-le-left _ _) (le-trans (faulted-below a f) h))
 
 -- ---- the code of a tree
-abbrev noted : Tree → ℕ
-noted t = faulted 64 t noFault
+abbrev noted : ℕ → Tree → ℕ
+noted w t = faulted w t noFault
 
 -- A base of which no fault is noted.
 good : (a : Tree) (p : ℕ) → faultCode 8 p < baseFault (holdsX a) (parity a) p → (holdsX a ≡ false) × (parity a ≡ 1)
@@ -126,108 +126,108 @@ good a p = go (holdsX a) (eqb (parity a) 0) refl refl
     go false true i j h = absurd (lt-irrefl (faultCode 8 p) h)
     go false false i j h = (i, omega (arith, parity-small a, eqb-false (parity a) 0 j))
 
-literal-over : (p n : ℕ) → 64 < n → literalFault 64 p n ≤ faultCode 6 (suc p)
-literal-over p n over = go (ltb n (2 ^ 64))
+literal-over : (w p n : ℕ) → 64 < n → literalFault w p n ≤ faultCode 6 (suc p)
+literal-over w p n over = go (ltb n (2 ^ w))
   where
     go : (t : Bool) → cond t (cond (leb n 64) noFault (faultCode 6 (p + 1))) (faultCode 5 (p + 1)) ≤ faultCode 6 (suc p)
     go true = rw (lt-leb n 64 over) (omega arith)
     go false = omega arith
 
 -- A code below `noFault` is that of a fault.
-abbrev Coded : List ℕ → ℕ → Type 0
-Coded s c = c < noFault → (n : ℕ) × (p : ℕ) × Fault 64 s n p × (c ≡ faultCode n p)
+abbrev Coded : ℕ → List ℕ → ℕ → Type 0
+Coded w s c = c < noFault → (n : ℕ) × (p : ℕ) × Fault w s n p × (c ≡ faultCode n p)
 
-nothing : (s : List ℕ) → Coded s noFault
-nothing s small = absurd (lt-irrefl noFault small)
+nothing : (w : ℕ) (s : List ℕ) → Coded w s noFault
+nothing w s small = absurd (lt-irrefl noFault small)
 
-known : {s : List ℕ} {c n p : ℕ} → Fault 64 s n p → c ≡ faultCode n p → Coded s c
+known : {w : ℕ} {s : List ℕ} {c n p : ℕ} → Fault w s n p → c ≡ faultCode n p → Coded w s c
 known {n = n} {p} F e small = (n, p, F, e)
 
-module _ {s : List ℕ} {t : Tree} (M : Formula s t) where
+module _ (w : ℕ) (pos : 0 < w) {s : List ℕ} {t : Tree} (M : Formula s t) where
   -- Every node of the one tree that the text means is noted.
-  below : {r u : Tree} → Formula s r → Part u r → noted t ≤ own 64 u
-  below {u = u} N k = faulted-least 64 (subst (Part u) (unambiguous N M) k) noFault (le-refl noFault)
+  below : {r u : Tree} → Formula s r → Part u r → noted w t ≤ own w u
+  below {u = u} N k = faulted-least w (subst (Part u) (unambiguous N M) k) noFault (le-refl noFault)
 
   -- A base is judged by its value's parity where no fault further left is noted.
-  base-parity : {a b : Tree} {p : ℕ} → Part (raise a p b) t → faultCode 8 p ≤ noted t → holdsX a ≡ false → valueFor 64 0 a % 2 ≡ parity a
-  base-parity {a} k least none = parity-noted 64 0 (omega arith) a none (λ c d q l. good c q (inner c d q l) .1)
+  base-parity : {a b : Tree} {p : ℕ} → Part (raise a p b) t → faultCode 8 p ≤ noted w t → holdsX a ≡ false → valueFor w 0 a % 2 ≡ parity a
+  base-parity {a} k least none = parity-noted w 0 pos a none (λ c d q l. good c q (inner c d q l) .1)
     where
       inner : (c d : Tree) (q : ℕ) → Part (raise c q d) a → faultCode 8 q < baseFault (holdsX c) (parity c) q
       inner c d q l = lt-of-lt-of-le (omega (arith, base-left M k l)) (below M (part-of (in-base l) k))
 
-  even-noted : {a b : Tree} {p : ℕ} → Part (raise a p b) t → valueFor 64 0 a % 2 ≡ 0 → noted t ≤ faultCode 8 p
-  even-noted {a} {p = p} k even = go (leb (noted t) (faultCode 8 p)) refl
+  even-noted : {a b : Tree} {p : ℕ} → Part (raise a p b) t → valueFor w 0 a % 2 ≡ 0 → noted w t ≤ faultCode 8 p
+  even-noted {a} {p = p} k even = go (leb (noted w t) (faultCode 8 p)) refl
     where
-      go : (h : Bool) → leb (noted t) (faultCode 8 p) ≡ h → noted t ≤ faultCode 8 p
-      go true e = leb-true (noted t) (faultCode 8 p) e
+      go : (h : Bool) → leb (noted w t) (faultCode 8 p) ≡ h → noted w t ≤ faultCode 8 p
+      go true e = leb-true (noted w t) (faultCode 8 p) e
       go false e =
-          let h = leb-false (noted t) (faultCode 8 p) e in
+          let h = leb-false (noted w t) (faultCode 8 p) e in
           let g = good a p (lt-of-lt-of-le h (below M k)) in
           absurd (omega (arith, base-parity k (le-of-lt h) (g .0), g .1))
 
-  within : {r u : Tree} (c : ℕ) → Formula s r → Part u r → own 64 u ≤ c → code t ≤ c
-  within c N k h = le-trans (min-le-left (noted t) _) (le-trans (below N k) h)
+  within : {r u : Tree} (c : ℕ) → Formula s r → Part u r → own w u ≤ c → code w t ≤ c
+  within c N k h = le-trans (min-le-left (noted w t) _) (le-trans (below N k) h)
 
-  pub code-least : {m q : ℕ} → Fault 64 s m q → 5 ≤ m → code t ≤ faultCode m q
+  pub code-least : {m q : ℕ} → Fault w s m q → 5 ≤ m → code w t ≤ faultCode m q
   code-least (too-long h) low = absurd (omega arith)
   code-least (too-deep h) low = absurd (omega arith)
   code-least (not-grammar h) low = absurd (omega arith)
-  code-least (number-over {p = p} {v} N k h) low = within (faultCode 5 p) N k (rw (le-ltb v (2 ^ 64) h) (le-refl (faultCode 5 p)))
-  code-least (exponent-number-over {p = p} {n} N k h) low = within (faultCode 5 (suc p)) N k (rw (le-ltb n (2 ^ 64) h) (omega arith))
-  code-least (exponent-over {p = p} {n} N k h) low = within (faultCode 6 (suc p)) N k (literal-over p n h)
+  code-least (number-over {p = p} {v} N k h) low = within (faultCode 5 p) N k (rw (le-ltb v (2 ^ w) h) (le-refl (faultCode 5 p)))
+  code-least (exponent-number-over {p = p} {n} N k h) low = within (faultCode 5 (suc p)) N k (rw (le-ltb n (2 ^ w) h) (omega arith))
+  code-least (exponent-over {p = p} {n} N k h) low = within (faultCode 6 (suc p)) N k (literal-over w p n h)
   code-least (too-many N h) low =
-      le-trans (min-le-right (noted t) _) (rw (lt-ltb mostNodes (nodes t) (subst (λ u. mostNodes < nodes u) (unambiguous N M) h)) (le-refl (faultCode 7 0)))
+      le-trans (min-le-right (noted w t) _) (rw (lt-ltb mostNodes (nodes t) (subst (λ u. mostNodes < nodes u) (unambiguous N M) h)) (le-refl (faultCode 7 0)))
   code-least (x-in-base {p = p} N k h) low = within (faultCode 8 p) N k (rw h (le-refl (faultCode 8 p)))
   code-least (even-base {a = a} {b} {p} N k h) low =
-      le-trans (min-le-left (noted t) _) (even-noted (subst (Part (raise a p b)) (unambiguous N M) k) h)
+      le-trans (min-le-left (noted w t) _) (even-noted (subst (Part (raise a p b)) (unambiguous N M) k) h)
 
   -- What is noted of a node, and then of the tree, is a fault's code. Of a base this holds where it is the least.
-  number-coded : {p v : ℕ} → Part (number p v) t → Coded s (numberFault 64 p v)
-  number-coded {p} {v} k = go (ltb v (2 ^ 64)) refl
+  number-coded : {p v : ℕ} → Part (number p v) t → Coded w s (numberFault w p v)
+  number-coded {p} {v} k = go (ltb v (2 ^ w)) refl
     where
-      go : (h : Bool) → ltb v (2 ^ 64) ≡ h → Coded s (cond h noFault (faultCode 5 p))
-      go true e = nothing s
-      go false e = known (number-over M k (ltb-false v (2 ^ 64) e)) refl
+      go : (h : Bool) → ltb v (2 ^ w) ≡ h → Coded w s (cond h noFault (faultCode 5 p))
+      go true e = nothing w s
+      go false e = known (number-over M k (ltb-false v (2 ^ w) e)) refl
 
-  literal-coded : {a : Tree} {p n : ℕ} → Part (literalPower a p n) t → Coded s (literalFault 64 p n)
-  literal-coded {p = p} {n} k = go (ltb n (2 ^ 64)) (leb n 64) refl refl
+  literal-coded : {a : Tree} {p n : ℕ} → Part (literalPower a p n) t → Coded w s (literalFault w p n)
+  literal-coded {p = p} {n} k = go (ltb n (2 ^ w)) (leb n 64) refl refl
     where
-      go : (h l : Bool) → ltb n (2 ^ 64) ≡ h → leb n 64 ≡ l → Coded s (cond h (cond l noFault (faultCode 6 (p + 1))) (faultCode 5 (p + 1)))
-      go true true e i = nothing s
+      go : (h l : Bool) → ltb n (2 ^ w) ≡ h → leb n 64 ≡ l → Coded w s (cond h (cond l noFault (faultCode 6 (p + 1))) (faultCode 5 (p + 1)))
+      go true true e i = nothing w s
       go true false e i = known (exponent-over M k (leb-false n 64 i)) (omega arith)
-      go false l e i = known (exponent-number-over M k (ltb-false n (2 ^ 64) e)) (omega arith)
+      go false l e i = known (exponent-number-over M k (ltb-false n (2 ^ w) e)) (omega arith)
 
-  base-coded : {a b : Tree} {p : ℕ} → Part (raise a p b) t → noted t ≡ baseFault (holdsX a) (parity a) p
-      → Coded s (baseFault (holdsX a) (parity a) p)
+  base-coded : {a b : Tree} {p : ℕ} → Part (raise a p b) t → noted w t ≡ baseFault (holdsX a) (parity a) p
+      → Coded w s (baseFault (holdsX a) (parity a) p)
   base-coded {a} {p = p} k = go (holdsX a) (eqb (parity a) 0) refl refl
     where
-      go : (x even : Bool) → holdsX a ≡ x → eqb (parity a) 0 ≡ even → noted t ≡ cond (x || even) (faultCode 8 p) noFault
-          → Coded s (cond (x || even) (faultCode 8 p) noFault)
+      go : (x even : Bool) → holdsX a ≡ x → eqb (parity a) 0 ≡ even → noted w t ≡ cond (x || even) (faultCode 8 p) noFault
+          → Coded w s (cond (x || even) (faultCode 8 p) noFault)
       go true even i j e = known (x-in-base M k i) refl
       go false true i j e = known (even-base M k (base-parity k (omega arith) i ∙ eqb-true (parity a) 0 j)) refl
-      go false false i j e = nothing s
+      go false false i j e = nothing w s
 
-  node-coded : (u : Tree) → Part u t → noted t ≡ own 64 u → Coded s (own 64 u)
+  node-coded : (u : Tree) → Part u t → noted w t ≡ own w u → Coded w s (own w u)
   node-coded (number p v) k e = number-coded k
-  node-coded variable k e = nothing s
-  node-coded (sum a b) k e = nothing s
-  node-coded (difference a b) k e = nothing s
-  node-coded (product a b) k e = nothing s
-  node-coded (minus a) k e = nothing s
+  node-coded variable k e = nothing w s
+  node-coded (sum a b) k e = nothing w s
+  node-coded (difference a b) k e = nothing w s
+  node-coded (product a b) k e = nothing w s
+  node-coded (minus a) k e = nothing w s
   node-coded (literalPower a p n) k e = literal-coded k
   node-coded (raise a p b) k e = base-coded k e
 
-  count-coded : Coded s (cond (ltb mostNodes (nodes t)) (faultCode 7 0) noFault)
+  count-coded : Coded w s (cond (ltb mostNodes (nodes t)) (faultCode 7 0) noFault)
   count-coded = go (ltb mostNodes (nodes t)) refl
     where
-      go : (h : Bool) → ltb mostNodes (nodes t) ≡ h → Coded s (cond h (faultCode 7 0) noFault)
+      go : (h : Bool) → ltb mostNodes (nodes t) ≡ h → Coded w s (cond h (faultCode 7 0) noFault)
       go true e = known (too-many M (ltb-true mostNodes (nodes t) e)) refl
-      go false e = nothing s
+      go false e = nothing w s
 
-  coded : Coded s (code t)
+  coded : Coded w s (code w t)
   coded =
-      lesser (Coded s) (noted t) (cond (ltb mostNodes (nodes t)) (faultCode 7 0) noFault)
-      (faulted-one 64 (λ c. noted t ≡ c → Coded s c) t noFault (λ e. nothing s) node-coded refl) count-coded
+      lesser (Coded w s) (noted w t) (cond (ltb mostNodes (nodes t)) (faultCode 7 0) noFault)
+      (faulted-one w (λ c. noted w t ≡ c → Coded w s c) t noFault (λ e. nothing w s) node-coded refl) count-coded
 
 -- ---- refused and accepted by the code
 -- In a text that is not too long, a fault's place and number are small enough for its code.
@@ -249,15 +249,15 @@ first-code c m q least small = go (ltb (c / 2048) m) refl
     go true e = inl (ltb-true (c / 2048) m e)
     go false e = let k = ltb-false (c / 2048) m e in inr (omega arith, omega arith)
 
-module _ (s : List ℕ) (t : Tree) (M : Formula s t) (short : length s ≤ 1024) where
-  pub code-applies : code t < noFault → Fault 64 s (code t / 2048) (code t % 2048)
-  code-applies h = go (coded M h)
+module _ (w : ℕ) (pos : 0 < w) (s : List ℕ) (t : Tree) (M : Formula s t) (short : length s ≤ 1024) where
+  pub code-applies : code w t < noFault → Fault w s (code w t / 2048) (code w t % 2048)
+  code-applies h = go (coded w pos M h)
     where
-      go : (n : ℕ) × (p : ℕ) × Fault 64 s n p × (code t ≡ faultCode n p) → Fault 64 s (code t / 2048) (code t % 2048)
-      go (n, p, F, e) = let small = fault-small short F in subst₂ (Fault 64 s) (omega arith) (omega arith) F
+      go : (n : ℕ) × (p : ℕ) × Fault w s n p × (code w t ≡ faultCode n p) → Fault w s (code w t / 2048) (code w t % 2048)
+      go (n, p, F, e) = let small = fault-small short F in subst₂ (Fault w s) (omega arith) (omega arith) F
 
   module _ (shallow : (p : ℕ) → TooDeep s p → ⊥) where
-    late : {m q : ℕ} → Fault 64 s m q → 5 ≤ m
+    late : {m q : ℕ} → Fault w s m q → 5 ≤ m
     late (too-long h) = omega arith
     late (too-deep {p} h) = absurd (shallow p h)
     late (not-grammar h) = absurd (h .outside t M)
@@ -268,14 +268,14 @@ module _ (s : List ℕ) (t : Tree) (M : Formula s t) (short : length s ≤ 1024)
     late (x-in-base N k h) = omega arith
     late (even-base N k h) = omega arith
 
-    pub tree-refused : code t < noFault → Refused 64 s (code t / 2048) (code t % 2048)
+    pub tree-refused : code w t < noFault → Refused w s (code w t / 2048) (code w t % 2048)
     tree-refused h = record {
       applies = code-applies h;
-      first = λ m q F. first-code (code t) m q (code-least M F (late F)) (fault-small short F .1);
+      first = λ m q F. first-code (code w t) m q (code-least w pos M F (late F)) (fault-small short F .1);
     }
 
-    pub tree-accepted : noFault ≤ code t → Accepted 64 s t
+    pub tree-accepted : noFault ≤ code w t → Accepted w s t
     tree-accepted h = record {
       means = M;
-      faultless = λ n p F. let small = fault-small short F in omega (arith, code-least M F (late F));
+      faultless = λ n p F. let small = fault-small short F in omega (arith, code-least w pos M F (late F));
     }

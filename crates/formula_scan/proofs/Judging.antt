@@ -23,10 +23,10 @@ use Rattle.formula_scan.proofs.Ways.{got, lost, WholeBracket}
 use Rattle.formula_scan.proofs.GrammarScan.{complete, sound, unambiguous, stops-at, stops-unique}
 
 -- ---- 2: over 1,024 bytes
-pub judged-long : (l : List ℕ) → 1024 < length l → Judged 64 l (record { number = 2; place = 1024 })
-judged-long l h = refuses (record { applies = too-long h; first = first })
+pub judged-long : {w : ℕ} (l : List ℕ) → 1024 < length l → Judged w l (record { number = 2; place = 1024 })
+judged-long {w} l h = refuses (record { applies = too-long h; first = first })
   where
-    first : (m q : ℕ) → Fault 64 l m q → (2 < m) ⊎ ((2 ≡ m) × (1024 ≤ q))
+    first : (m q : ℕ) → Fault w l m q → (2 < m) ⊎ ((2 ≡ m) × (1024 ≤ q))
     first _ _ (too-long h) = inr (refl, omega arith)
     first _ _ (too-deep d) = inl (omega arith)
     first _ _ (not-grammar d) = inl (omega arith)
@@ -38,10 +38,10 @@ judged-long l h = refuses (record { applies = too-long h; first = first })
     first _ _ (even-base a b c) = inl (omega arith)
 
 -- ---- 3: the first ( that is too deep
-pub judged-deep : (l : List ℕ) (p : ℕ) → length l ≤ 1024 → DeepAt l p → p < length l → Judged 64 l (record { number = 3; place = p })
-judged-deep l p short at h = refuses (record { applies = too-deep (at .deep h); first = first })
+pub judged-deep : {w : ℕ} (l : List ℕ) (p : ℕ) → length l ≤ 1024 → DeepAt l p → p < length l → Judged w l (record { number = 3; place = p })
+judged-deep {w} l p short at h = refuses (record { applies = too-deep (at .deep h); first = first })
   where
-    first : (m q : ℕ) → Fault 64 l m q → (3 < m) ⊎ ((3 ≡ m) × (p ≤ q))
+    first : (m q : ℕ) → Fault w l m q → (3 < m) ⊎ ((3 ≡ m) × (p ≤ q))
     first _ _ (too-long h) = absurd (omega arith)
     first _ q (too-deep d) = inr (refl, leftmost (λ (less : q < p). at .clear q less d))
       where
@@ -60,9 +60,9 @@ pub shallow : (l : List ℕ) (p : ℕ) → DeepAt l p → length l ≤ p → (q 
 shallow l p at h q deep = at .clear q (omega (arith, deep .inside)) deep
 
 -- ---- the whole text read
-module _ (l : List ℕ) (f : ℕ) (out : List ℕ) (r : Found) (now : List ℕ) where
+module _ {w : ℕ} (l : List ℕ) (f : ℕ) (out : List ℕ) (r : Found) (now : List ℕ) where
   -- The sum ends before the text does: the scan stops there.
-  pub scanned-short : (whole : WholeBracket l 0 0 f out r now) → r .at < length l → scanned l ≡ stops (r .at)
+  pub scanned-short : (whole : WholeBracket w l 0 0 f out r now) → r .at < length l → scanned l ≡ stops (r .at)
   unfolding step afterPower closed
   scanned-short whole h =
       whole .runs bottom
@@ -81,7 +81,7 @@ module _ (l : List ℕ) (f : ℕ) (out : List ℕ) (r : Found) (now : List ℕ) 
       go otherByte i = refl
 
   -- It ends with the text: the text is a formula.
-  pub whole-formula : (whole : WholeBracket l 0 0 f out r now) → length l ≤ r .at → Formula l (whole .t)
+  pub whole-formula : (whole : WholeBracket w l 0 0 f out r now) → length l ≤ r .at → Formula l (whole .t)
   unfolding run ending ended sumWith productWith negatives
   whole-formula whole h =
       sound l (whole .t)
@@ -92,7 +92,7 @@ module _ (l : List ℕ) (f : ℕ) (out : List ℕ) (r : Found) (now : List ℕ) 
       same k = omega arith
 
   -- A formula's tree is the one that the reader got.
-  pub formula-got : (t : Tree) → SumRead l 0 0 f out r now → Formula l t → (r .nodes ≡ nodes t) × (now ≡ wrote 64 t 0 out)
+  pub formula-got : (t : Tree) → SumRead w l 0 0 f out r now → Formula l t → (r .nodes ≡ nodes t) × (now ≡ wrote w t 0 out)
   formula-got t read means = go (r .ok) refl
     where
       clash : (p : ℕ) → scanned l ≡ stops p → ⊥
@@ -101,13 +101,13 @@ module _ (l : List ℕ) (f : ℕ) (out : List ℕ) (r : Found) (now : List ℕ) 
           never : {o : Outcome} {t : Tree} {p : ℕ} → o ≡ reads t → o ≡ stops p → _≡_ {A = ℕ} 0 1
           never a b = cc
 
-      reached : (whole : WholeBracket l 0 0 f out r now) → (b : Bool) → ltb (r .at) (length l) ≡ b → (r .nodes ≡ nodes t) × (now ≡ wrote 64 t 0 out)
+      reached : (whole : WholeBracket w l 0 0 f out r now) → (b : Bool) → ltb (r .at) (length l) ≡ b → (r .nodes ≡ nodes t) × (now ≡ wrote w t 0 out)
       reached whole true e = absurd (clash (r .at) (scanned-short whole (ltb-true (r .at) (length l) e)))
       reached whole false e =
           let same : whole .t ≡ t = unambiguous (whole-formula whole (ltb-false (r .at) (length l) e)) means in
-          (whole .counted ∙ omega (arith, ap (λ u. nodes u) same), whole .writes ∙ ap (λ u. wrote 64 u 0 out) same)
+          (whole .counted ∙ omega (arith, ap (λ u. nodes u) same), whole .writes ∙ ap (λ u. wrote w u 0 out) same)
 
-      go : (b : Bool) → r .ok ≡ b → (r .nodes ≡ nodes t) × (now ≡ wrote 64 t 0 out)
+      go : (b : Bool) → r .ok ≡ b → (r .nodes ≡ nodes t) × (now ≡ wrote w t 0 out)
       go true e = let whole = got read e in reached whole (ltb (r .at) (length l)) refl
       go false e = absurd (clash (r .at) (lost read e bottom))
 
@@ -128,11 +128,11 @@ tree-part lent cleared e =
     ap (λ l. take nodesLength (drop 1 l)) e ∙ take-at (replicate nodesLength 0) (drop treeLength lent) nodesLength (length-replicate {A = ℕ} nodesLength 0)
 
 -- ---- 4: not in the grammar
-module _ (l : List ℕ) (short : length l ≤ 1024) (flat : (q : ℕ) → TooDeep l q → ⊥) where
-  pub judged-stop : (p : ℕ) → scanned l ≡ stops p → Judged 64 l (record { number = 4; place = p })
+module _ {w : ℕ} (l : List ℕ) (short : length l ≤ 1024) (flat : (q : ℕ) → TooDeep l q → ⊥) where
+  pub judged-stop : (p : ℕ) → scanned l ≡ stops p → Judged w l (record { number = 4; place = p })
   judged-stop p e = refuses (record { applies = not-grammar (stops-at l p e); first = first })
     where
-      first : (m q : ℕ) → Fault 64 l m q → (4 < m) ⊎ ((4 ≡ m) × (p ≤ q))
+      first : (m q : ℕ) → Fault w l m q → (4 < m) ⊎ ((4 ≡ m) × (p ≤ q))
       first _ _ (too-long h) = absurd (omega arith)
       first _ q (too-deep d) = absurd (flat q d)
       first _ q (not-grammar d) = inr (refl, omega (arith, stops-unique (stops-at l p e) d))
@@ -156,12 +156,12 @@ fault-number (x-in-base a b c) = omega arith
 fault-number (even-base a b c) = omega arith
 
 -- A refused text alters nothing.
-pub reading-refused : (l lent : List ℕ) (answer : ReadAnswer) → treeLength ≤ length lent → Judged 64 l answer → (answer .number ≡ 0 → ⊥)
-    → Reading 64 l lent answer lent
+pub reading-refused : {w : ℕ} (l lent : List ℕ) (answer : ReadAnswer) → treeLength ≤ length lent → Judged w l answer → (answer .number ≡ 0 → ⊥)
+    → Reading w l lent answer lent
 reading-refused l lent _ h (refuses r) some = refused h r
 reading-refused l lent _ h (accepts a) some = absurd (some refl)
 
-pub reading-accepted : (l lent : List ℕ) (answer : ReadAnswer) (now : List ℕ) → treeLength ≤ length lent → Judged 64 l answer → answer .number ≡ 0
-    → ((t : Tree) → Accepted 64 l t → now ≡ treeWords t ++ drop treeLength lent) → Reading 64 l lent answer now
+pub reading-accepted : {w : ℕ} (l lent : List ℕ) (answer : ReadAnswer) (now : List ℕ) → treeLength ≤ length lent → Judged w l answer → answer .number ≡ 0
+    → ((t : Tree) → Accepted w l t → now ≡ treeWords t ++ drop treeLength lent) → Reading w l lent answer now
 reading-accepted l lent _ now h (refuses r) nought writes = absurd (omega (arith, fault-number (r .applies)))
 reading-accepted l lent _ now h (accepts {t = t} a) nought writes = rw (writes t a) (accepted h a)

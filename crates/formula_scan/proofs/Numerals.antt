@@ -17,7 +17,7 @@ fits v h = (rw (lt-ltb v (2 ^ 64) h), lt-leb (2 ^ 64) v h)
 module _ (number : Numeral) (digit : ℕ) (small : digit < 10) where
   -- The number is over already.
   pub pushed-over : number .over ≡ true
-      → Pushed number digit (record { at = number .at + 1; value = 0; over = true; odd = digit % 2 })
+      → Pushed 64 number digit (record { at = number .at + 1; value = 0; over = true; odd = digit % 2 })
   pushed-over was = record {
     onward = refl;
     value-kept = λ v e o. sym (over (10 * v + digit) (still v o) .0);
@@ -36,7 +36,7 @@ module _ (number : Numeral) (digit : ℕ) (small : digit < 10) where
 
   -- It goes over now.
   pub pushed-past : number .over ≡ false → (18446744073709551615 - digit) / 10 < number .value
-      → Pushed number digit (record { at = number .at + 1; value = 0; over = true; odd = digit % 2 })
+      → Pushed 64 number digit (record { at = number .at + 1; value = 0; over = true; odd = digit % 2 })
   pushed-past was past = record {
     onward = refl;
     value-kept = λ v e o. sym (over (10 * v + digit) (now v (value-is v was e o)) .0);
@@ -49,7 +49,7 @@ module _ (number : Numeral) (digit : ℕ) (small : digit < 10) where
 
   -- It fits.
   pub pushed-fits : number .over ≡ false → number .value ≤ (18446744073709551615 - digit) / 10
-      → Pushed number digit (record { at = number .at + 1; value = number .value * 10 + digit; over = false; odd = digit % 2 })
+      → Pushed 64 number digit (record { at = number .at + 1; value = number .value * 10 + digit; over = false; odd = digit % 2 })
   pushed-fits was small-enough = record {
     onward = refl;
     value-kept = λ v e o. same v (value-is v was e o) ∙ sym (fits (10 * v + digit) (room v (value-is v was e o)) .0);

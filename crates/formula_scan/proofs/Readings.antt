@@ -84,10 +84,10 @@ first-byte : (l : List ℕ) (at : ℕ) → at < length l → take (at + 1 - at) 
 first-byte l at h = one-more l at at (omega arith) h ∙ ap (λ n. take n (drop at l) ++ getD l at 0 ∷ []) (sub-self at)
 
 -- The digits so far.
-pub record NumberSoFar (l : List ℕ) (at : ℕ) (r : Numeral) : Type 0 where
+pub record NumberSoFar (w : ℕ) (l : List ℕ) (at : ℕ) (r : Numeral) : Type 0 where
   pub v : ℕ
-  pub value-kept : r .value ≡ kept 64 v
-  pub value-over : r .over ≡ leb (2 ^ 64) v
+  pub value-kept : r .value ≡ kept w v
+  pub value-over : r .over ≡ leb (2 ^ w) v
   pub value-odd : r .odd ≡ v % 2
   pub onward : at < r .at
   pub inside : r .at ≤ length l
@@ -97,7 +97,7 @@ pub record NumberSoFar (l : List ℕ) (at : ℕ) (r : Numeral) : Type 0 where
   pub spelt : Count (take (r .at - at) (drop at l)) v
 
 pub number-nought : (l : List ℕ) (at d : ℕ) → d + 48 ≡ getD l at 0 → d ≡ 0
-    → NumberRead l at (record { at = at + 1; value = d; over = false; odd = d % 2 })
+    → NumberRead 64 l at (record { at = at + 1; value = d; over = false; odd = d % 2 })
 unfolding step beforeOperand beforeExponent byteOf
 number-nought l at d e none = record {
   v = 0;
@@ -116,7 +116,7 @@ number-nought l at d e none = record {
     zeroth = omega arith
 
 pub number-starts : (l : List ℕ) (at d : ℕ) → d + 48 ≡ getD l at 0 → d ≤ 9 → (d ≡ 0 → ⊥)
-    → NumberSoFar l at (record { at = at + 1; value = d; over = false; odd = d % 2 })
+    → NumberSoFar 64 l at (record { at = at + 1; value = d; over = false; odd = d % 2 })
 unfolding step beforeOperand beforeExponent
 number-starts l at d e small some = record {
   v = d;
@@ -137,8 +137,8 @@ number-starts l at d e small some = record {
     digit : byteOf (d + 48) ≡ digitByte d
     digit = byte-digit (d + 48) (omega arith) (omega arith) ∙ ap (λ z. digitByte z) (omega arith)
 
-pub number-goes-on : (l : List ℕ) (at : ℕ) (r more : Numeral) (d : ℕ) → NumberSoFar l at r → d + 48 ≡ getD l (r .at) 0 → d ≤ 9
-    → Readers.Pushed r d more → NumberSoFar l at more
+pub number-goes-on : {w : ℕ} (l : List ℕ) (at : ℕ) (r more : Numeral) (d : ℕ) → NumberSoFar w l at r → d + 48 ≡ getD l (r .at) 0 → d ≤ 9
+    → Readers.Pushed w r d more → NumberSoFar w l at more
 unfolding step afterDigit afterLiteralDigit
 number-goes-on l at r more d so e small push = record {
   v = 10 * so .v + d;
@@ -171,7 +171,7 @@ number-goes-on l at r more d so e small push = record {
         → step (holding (so .v)) (r .at) (byteOf (d + 48)) ≡ holding (10 * so .v + d)
     taken holding z k = takes holding z k (so .v) (r .at) (d + 48) (omega arith) ∙ ap (λ n. holding (10 * so .v + n)) (omega arith)
 
-pub number-ends : (l : List ℕ) (at : ℕ) (r : Numeral) → NumberSoFar l at r → (Digit (getD l (r .at) 0) → ⊥) → NumberRead l at r
+pub number-ends : {w : ℕ} (l : List ℕ) (at : ℕ) (r : Numeral) → NumberSoFar w l at r → (Digit (getD l (r .at) 0) → ⊥) → NumberRead w l at r
 number-ends l at r so none = record {
   v = so .v;
   value-kept = so .value-kept;

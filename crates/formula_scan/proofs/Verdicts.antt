@@ -14,7 +14,7 @@ use Rattle.formula.specs.Tree.{Tree}
 use Rattle.formula.specs.Refusals.{TooDeep, Refused, Accepted}
 use Rattle.formula_scan.specs.Scan.{Outcome, reads, stops, scanned}
 use Rattle.formula_scan.specs.Readers.{noFault, code, DeepAt, Judged, refuses, accepts}
-use Rattle.formula_scan.specs.Verdict.{Verdict, refused, accepted, counting, deepPlace, outcomeVerdict, shortVerdict, verdict}
+use Rattle.formula_scan.specs.Verdict.{Verdict, refused, accepted, counting, deepPlace, outcomeVerdict, shortVerdict, verdictFor, verdict}
 use Rattle.formula_scan.proofs.GrammarScan.{sound, unambiguous}
 use Rattle.formula_scan.proofs.BracketCount.{DeepSoFar, deep-starts, deep-found, deep-goes-on, deep-nowhere}
 use Rattle.formula_scan.proofs.Judging.{judged-long, judged-deep, judged-stop, shallow}
@@ -76,28 +76,28 @@ module _ (s : List ℕ) where
   judged-right n p some (accepts a) = absurd (omega arith)
 
   module _ (short : length s ≤ 1024) where
-    outcome-right : (flat : (q : ℕ) → TooDeep s q → ⊥) (o : Outcome) → scanned s ≡ o → Right s (outcomeVerdict o)
+    outcome-right : (flat : (q : ℕ) → TooDeep s q → ⊥) (o : Outcome) → scanned s ≡ o → Right s (outcomeVerdict 64 o)
     unfolding outcomeVerdict
     outcome-right flat (stops p) e = judged-right 4 p (omega arith) (judged-stop s short flat p e)
-    outcome-right flat (reads t) e = go (ltb (code t) noFault) refl
+    outcome-right flat (reads t) e = go (ltb (code 64 t) noFault) refl
       where
-        go : (b : Bool) → ltb (code t) noFault ≡ b → Right s (cond b (refused (code t / 2048) (code t % 2048)) (accepted t))
-        go true q = right-refused (tree-refused s t (sound s t e) short flat (ltb-true (code t) noFault q))
-        go false q = right-accepted (tree-accepted s t (sound s t e) short flat (ltb-false (code t) noFault q))
+        go : (b : Bool) → ltb (code 64 t) noFault ≡ b → Right s (cond b (refused (code 64 t / 2048) (code 64 t % 2048)) (accepted t))
+        go true q = right-refused (tree-refused 64 (omega arith) s t (sound s t e) short flat (ltb-true (code 64 t) noFault q))
+        go false q = right-accepted (tree-accepted 64 (omega arith) s t (sound s t e) short flat (ltb-false (code 64 t) noFault q))
 
-    short-right : (p : ℕ) → DeepAt s p → Right s (shortVerdict (length s) p (scanned s))
+    short-right : (p : ℕ) → DeepAt s p → Right s (shortVerdict 64 (length s) p (scanned s))
     short-right p at = go (ltb p (length s)) refl
       where
-        go : (b : Bool) → ltb p (length s) ≡ b → Right s (cond b (refused 3 p) (outcomeVerdict (scanned s)))
+        go : (b : Bool) → ltb p (length s) ≡ b → Right s (cond b (refused 3 p) (outcomeVerdict 64 (scanned s)))
         go true q = judged-right 3 p (omega arith) (judged-deep s p short at (ltb-true p (length s) q))
         go false q = outcome-right (shallow s p at (ltb-false p (length s) q)) (scanned s) refl
 
 pub verdict-right : (s : List ℕ) → Right s (verdict s)
-unfolding verdict
+unfolding verdictFor
 verdict-right s = go (ltb 1024 (length s)) refl
   where
     go : (b : Bool) → ltb 1024 (length s) ≡ b
-        → Right s (cond b (refused 2 1024) (shortVerdict (length s) (deepPlace 0 0 0 s) (scanned s)))
+        → Right s (cond b (refused 2 1024) (shortVerdict 64 (length s) (deepPlace 0 0 0 s) (scanned s)))
     go true q = judged-right s 2 1024 (omega arith) (judged-long s (ltb-true 1024 (length s) q))
     go false q = short-right s (ltb-false 1024 (length s) q) (deepPlace 0 0 0 s) (deep-place-at s)
 

@@ -7,6 +7,7 @@ use native.Mathlib.Nat.{zero-add, suc-add}
 use native.Mathlib.Omega.{arith}
 use lib.Dec.{eqb, leb, ltb}
 use lib.ListN.{length, getD, drop}
+use lib.Pow.{pow-pos}
 use borrow.Author.Tests.{le-leb, lt-leb, ltb-true, ltb-false, ne-eqb, eq-eqb, eqb-true, eqb-false}
 use Rattle.formula_scan.specs.declared.Found.{Found}
 use Rattle.formula_scan.specs.declared.Numeral.{Numeral}
@@ -20,11 +21,11 @@ use Rattle.formula_scan.proofs.Readings.{odd-product}
 
 -- ---- an answer taken apart
 -- What a reader that got something says, with its place as in the answer.
-pub record Got (C : Type 0) (from : C → State) (to : C → Tree → State) (Next : ℕ → Type 0)
+pub record Got (width : ℕ) (C : Type 0) (from : C → State) (to : C → Tree → State) (Next : ℕ → Type 0)
     (l : List ℕ) (at n f : ℕ) (out : List ℕ) (r : Found) (now : List ℕ) : Type 0 where
   pub t : Tree
-  pub is : r ≡ found 64 t (r .at) n f
-  pub writes : now ≡ wrote 64 t n out
+  pub is : r ≡ found width t (r .at) n f
+  pub writes : now ≡ wrote width t n out
   pub onward : at < r .at
   pub inside : r .at ≤ length l
   pub room : at + nodes t ≤ r .at
@@ -32,13 +33,13 @@ pub record Got (C : Type 0) (from : C → State) (to : C → Tree → State) (Ne
   pub next : Next (getD l (r .at) 0)
   pub runs : (c : C) → run (from c) at (drop at l) ≡ run (to c t) (r .at) (drop (r .at) l)
 
-module _ {C : Type 0} {from : C → State} {to : C → Tree → State} {Next : ℕ → Type 0} {l : List ℕ} {at n f : ℕ} {out : List ℕ} {r : Found} {now : List ℕ} where
-  pub got : Read C from to Next l at n f out r now → r .ok ≡ true → Got C from to Next l at n f out r now
+module _ {width : ℕ} {C : Type 0} {from : C → State} {to : C → Tree → State} {Next : ℕ → Type 0} {l : List ℕ} {at n f : ℕ} {out : List ℕ} {r : Found} {now : List ℕ} where
+  pub got : Read width C from to Next l at n f out r now → r .ok ≡ true → Got width C from to Next l at n f out r now
   got (fails e h) ok = absurd (true≢false (sym ok ∙ e))
   got (gets t p e w a b c d h) ok =
       let place : r .at ≡ p = ap (λ (x : Found). x .at) e in record {
         t = t;
-        is = e ∙ ap (λ q. found 64 t q n f) (sym place);
+        is = e ∙ ap (λ q. found width t q n f) (sym place);
         writes = w;
         onward = omega arith;
         inside = omega arith;
@@ -48,11 +49,11 @@ module _ {C : Type 0} {from : C → State} {to : C → Tree → State} {Next : �
         runs = λ c. h c ∙ ap (λ q. run (to c t) q (drop q l)) (sym place);
       }
 
-  pub lost : Read C from to Next l at n f out r now → r .ok ≡ false → (c : C) → run (from c) at (drop at l) ≡ stops (r .at)
+  pub lost : Read width C from to Next l at n f out r now → r .ok ≡ false → (c : C) → run (from c) at (drop at l) ≡ stops (r .at)
   lost (fails e h) ok = h
   lost (gets t p e w a b c d h) ok = absurd (true≢false (sym (ap (λ (x : Found). x .ok) e) ∙ ok))
 
-  pub regained : Got C from to Next l at n f out r now → Read C from to Next l at n f out r now
+  pub regained : Got width C from to Next l at n f out r now → Read width C from to Next l at n f out r now
   regained g = gets (g .t) (r .at) (g .is) (g .writes) (g .onward) (g .inside) (g .room) (g .next) (g .runs)
 
 -- ---- what is noted of a tree
@@ -84,51 +85,51 @@ over-cond n v a b = go (ltb v n) refl
     go false e = ap (λ t. cond t a b) (le-leb n v (ltb-false v n e))
 
 -- A number that is kept decides as itself; one that is over is not 0.
-kept-cond {ℓ} : {A : Type ℓ} (n : ℕ) (test : ℕ → Bool) (a b c : A)
-    → cond (leb (2 ^ 64) n) c (cond (test (kept 64 n)) a b) ≡ cond (ltb n (2 ^ 64)) (cond (test n) a b) c
-kept-cond n test a b c = over-cond (2 ^ 64) n c (cond (test (kept 64 n)) a b) ∙ go (ltb n (2 ^ 64)) refl
+kept-cond {ℓ} : {A : Type ℓ} (width n : ℕ) (test : ℕ → Bool) (a b c : A)
+    → cond (leb (2 ^ width) n) c (cond (test (kept width n)) a b) ≡ cond (ltb n (2 ^ width)) (cond (test n) a b) c
+kept-cond width n test a b c = over-cond (2 ^ width) n c (cond (test (kept width n)) a b) ∙ go (ltb n (2 ^ width)) refl
   where
-    go : (t : Bool) → ltb n (2 ^ 64) ≡ t → cond t (cond (test (kept 64 n)) a b) c ≡ cond t (cond (test n) a b) c
+    go : (t : Bool) → ltb n (2 ^ width) ≡ t → cond t (cond (test (kept width n)) a b) c ≡ cond t (cond (test n) a b) c
     go true e = ap (λ k. cond (test k) a b) (ap (λ t. cond t n 0) e)
     go false e = refl
 
-literal-odd : (n o : ℕ) → cond (leb (2 ^ 64) n) o (cond (eqb (kept 64 n) 0) 1 o) ≡ cond (eqb n 0) 1 o
-literal-odd n o = kept-cond n (λ k. eqb k 0) 1 o o ∙ go (ltb n (2 ^ 64)) refl
+literal-odd : (width n o : ℕ) → cond (leb (2 ^ width) n) o (cond (eqb (kept width n) 0) 1 o) ≡ cond (eqb n 0) 1 o
+literal-odd width n o = kept-cond width n (λ k. eqb k 0) 1 o o ∙ go (ltb n (2 ^ width)) refl
   where
-    go : (t : Bool) → ltb n (2 ^ 64) ≡ t → cond t (cond (eqb n 0) 1 o) o ≡ cond (eqb n 0) 1 o
+    go : (t : Bool) → ltb n (2 ^ width) ≡ t → cond t (cond (eqb n 0) 1 o) o ≡ cond (eqb n 0) 1 o
     go true e = refl
-    go false e = sym (ap (λ t. cond t 1 o) (ne-eqb n 0 (λ z. nonzero (ltb-false n (2 ^ 64) e) z)))
+    go false e = sym (ap (λ t. cond t 1 o) (ne-eqb n 0 (λ z. nonzero (ltb-false n (2 ^ width) e) z)))
       where
-        nonzero : 2 ^ 64 ≤ n → n ≡ 0 → ⊥
-        nonzero h z = omega arith
+        nonzero : 2 ^ width ≤ n → n ≡ 0 → ⊥
+        nonzero h z = omega (arith, pow-pos width)
 
 -- ---- atoms
-module _ (l : List ℕ) (at n f : ℕ) (out : List ℕ) (r : Found) (now : List ℕ) where
-  pub atom-x : getD l at 0 ≡ 120 → r ≡ finding true 0 (at + 1) (n + 1) f → now ≡ put out n 1 0 → AtomRead l at n f out r now
+module _ {width : ℕ} (l : List ℕ) (at n f : ℕ) (out : List ℕ) (r : Found) (now : List ℕ) where
+  pub atom-x : getD l at 0 ≡ 120 → r ≡ finding true 0 (at + 1) (n + 1) f → now ≡ put out n 1 0 → AtomRead width l at n f out r now
   unfolding step beforeOperand byteOf holdsX parity nodes faulted wrote
   atom-x e q w =
       gets variable (at + 1) q w (omega arith) (omega (arith, inside l at (omega arith))) (omega arith) tt
       (λ lv. run-byte (operand lv) l at 120 e (omega arith))
 
-  pub atom-number : (num : Numeral) → NumberRead l at num
+  pub atom-number : (num : Numeral) → NumberRead width l at num
       → r ≡ finding false (num .odd) (num .at) (n + 1) (min f (cond (num .over) (faultCode 5 at) noFault)) → now ≡ put out n 0 (num .value)
-      → AtomRead l at n f out r now
+      → AtomRead width l at n f out r now
   unfolding holdsX parity nodes faulted wrote
   atom-number num read q w =
       gets (number at (read .v)) (num .at)
       (q
       ∙ ap₂ (λ o g. finding false o (num .at) (n + 1) (min f g)) (read .value-odd)
-      (ap (λ t. cond t (faultCode 5 at) noFault) (read .value-over) ∙ over-cond (2 ^ 64) (read .v) (faultCode 5 at) noFault))
+      (ap (λ t. cond t (faultCode 5 at) noFault) (read .value-over) ∙ over-cond (2 ^ width) (read .v) (faultCode 5 at) noFault))
       (w ∙ ap (λ k. put out n 0 k) (read .value-kept)) (read .onward) (read .inside) (omega (arith, read .onward)) tt (read .as-atom)
 
-  pub atom-bracket : getD l at 0 ≡ 40 → BracketRead l at n f out r now → AtomRead l at n f out r now
+  pub atom-bracket : getD l at 0 ≡ 40 → BracketRead width l at n f out r now → AtomRead width l at n f out r now
   unfolding step beforeOperand byteOf
   atom-bracket e (fails ok h) = fails ok (λ lv. run-byte (operand lv) l at 40 e (omega arith) ∙ h (brackets lv))
   atom-bracket e (gets t p q w a b c d h) =
       gets t p q w (omega arith) b (omega arith) tt (λ lv. run-byte (operand lv) l at 40 e (omega arith) ∙ h (brackets lv))
 
   pub no-atom : (getD l at 0 ≡ 45 → ⊥) → (getD l at 0 ≡ 40 → ⊥) → (getD l at 0 ≡ 120 → ⊥) → (Digit (getD l at 0) → ⊥)
-      → r ≡ stopping at → AtomRead l at n f out r now
+      → r ≡ stopping at → AtomRead width l at n f out r now
   unfolding step beforeOperand ending
   no-atom not-minus not-open not-letter not-digit q =
       fails (ap (λ (x : Found). x .ok) q)
@@ -167,43 +168,43 @@ atom-done l at (level σ π m o) t none =
     go otherByte i = refl
 
 -- What was got as an atom, the base of a power perhaps.
-abbrev pub Base : List ℕ → ℕ → ℕ → ℕ → List ℕ → Found → List ℕ → Type 0
-Base = Got Level operand atomed Anything
+abbrev pub Base : ℕ → List ℕ → ℕ → ℕ → ℕ → List ℕ → Found → List ℕ → Type 0
+Base width = Got width Level operand atomed Anything
 
-module _ (l : List ℕ) (at n f : ℕ) (out : List ℕ) where
-  pub power-lost : (r : Found) (now : List ℕ) → AtomRead l at n f out r now → r .ok ≡ false → PowerRead l at n f out r now
+module _ {width : ℕ} (l : List ℕ) (at n f : ℕ) (out : List ℕ) where
+  pub power-lost : (r : Found) (now : List ℕ) → AtomRead width l at n f out r now → r .ok ≡ false → PowerRead width l at n f out r now
   power-lost r now read no-tree = fails no-tree (lost read no-tree)
 
-  pub power-plain : (r : Found) (now : List ℕ) → Base l at n f out r now → (getD l (r .at) 0 ≡ 94 → ⊥) → PowerRead l at n f out r now
+  pub power-plain : (r : Found) (now : List ℕ) → Base width l at n f out r now → (getD l (r .at) 0 ≡ 94 → ⊥) → PowerRead width l at n f out r now
   power-plain r now base none =
       gets (base .t) (r .at) (base .is) (base .writes) (base .onward) (base .inside) (base .room) tt
       (λ lv. base .runs lv ∙ atom-done l (r .at) lv (base .t) none)
 
-  module _ (b : Found) (then : List ℕ) (base : Base l at n f out b then) (hat : getD l (b .at) 0 ≡ 94) where
+  module _ (b : Found) (then : List ℕ) (base : Base width l at n f out b then) (hat : getD l (b .at) 0 ≡ 94) where
     past-caret : (lv : Level) → run (operand lv) at (drop at l) ≡ run (afterCaret lv (base .t) (b .at)) (b .at + 1) (drop (b .at + 1) l)
     unfolding step afterAtom byteOf
     past-caret lv = base .runs lv ∙ run-byte (atomed lv (base .t)) l (b .at) 94 hat (omega arith)
 
-    pub power-literal : (num : Numeral) → NumberRead l (b .at + 1) num → (r : Found) (now : List ℕ) → r ≡ literalFound b num
-        → now ≡ put then (b .nodes) 7 (num .value) → PowerRead l at n f out r now
+    pub power-literal : (num : Numeral) → NumberRead width l (b .at + 1) num → (r : Found) (now : List ℕ) → r ≡ literalFound b num
+        → now ≡ put then (b .nodes) 7 (num .value) → PowerRead width l at n f out r now
     unfolding holdsX parity nodes faulted wrote
     power-literal num read r now q w =
         gets (literalPower (base .t) (b .at) (read .v)) (num .at)
         (q
         ∙ ap₂ (λ (x : Found) (y : Numeral). literalFound x (record { at = num .at; value = y .value; over = y .over; odd = y .odd })) (base .is) numeral
-        ∙ ap₂ (λ o g. finding (holdsX (base .t)) o (num .at) (n + nodes (base .t) + 1) (min (faulted 64 (base .t) f) g))
-        (literal-odd (read .v) (parity (base .t)))
-        (kept-cond (read .v) (λ k. leb k 64) noFault (faultCode 6 (b .at + 1)) (faultCode 5 (b .at + 1)))
-        ∙ ap (λ k. finding (holdsX (base .t)) (cond (eqb (read .v) 0) 1 (parity (base .t))) (num .at) k (min (faulted 64 (base .t) f) (literalFault 64 (b .at) (read .v)))) (omega arith))
-        (w ∙ ap₂ (λ x k. put x (b .nodes) 7 k) (base .writes) (read .value-kept) ∙ ap (λ k. put (wrote 64 (base .t) n out) k 7 (kept 64 (read .v))) (base .counted))
+        ∙ ap₂ (λ o g. finding (holdsX (base .t)) o (num .at) (n + nodes (base .t) + 1) (min (faulted width (base .t) f) g))
+        (literal-odd width (read .v) (parity (base .t)))
+        (kept-cond width (read .v) (λ k. leb k 64) noFault (faultCode 6 (b .at + 1)) (faultCode 5 (b .at + 1)))
+        ∙ ap (λ k. finding (holdsX (base .t)) (cond (eqb (read .v) 0) 1 (parity (base .t))) (num .at) k (min (faulted width (base .t) f) (literalFault width (b .at) (read .v)))) (omega arith))
+        (w ∙ ap₂ (λ x k. put x (b .nodes) 7 k) (base .writes) (read .value-kept) ∙ ap (λ k. put (wrote width (base .t) n out) k 7 (kept width (read .v))) (base .counted))
         (omega (arith, base .onward, read .onward)) (read .inside) (omega (arith, base .room, read .onward)) tt
         (λ lv. past-caret lv ∙ read .as-exponent lv (base .t) (b .at))
       where
-        numeral : num ≡ record { at = num .at; value = kept 64 (read .v); over = leb (2 ^ 64) (read .v); odd = num .odd }
+        numeral : num ≡ record { at = num .at; value = kept width (read .v); over = leb (2 ^ width) (read .v); odd = num .odd }
         numeral = ap₂ (λ x y. record { at = num .at; value = x; over = y; odd = num .odd }) (read .value-kept) (read .value-over)
 
     pub no-exponent : (getD l (b .at + 1) 0 ≡ 40 → ⊥) → (Digit (getD l (b .at + 1) 0) → ⊥) → (r : Found) (now : List ℕ)
-        → r ≡ stopping (b .at + 1) → PowerRead l at n f out r now
+        → r ≡ stopping (b .at + 1) → PowerRead width l at n f out r now
     unfolding step beforeExponent ending
     no-exponent not-open not-digit r now q =
         fails (ap (λ (x : Found). x .ok) q)
@@ -224,21 +225,21 @@ module _ (l : List ℕ) (at n f : ℕ) (out : List ℕ) where
         go lv otherByte i = refl
 
     module _ (opens : getD l (b .at + 1) 0 ≡ 40) (g : ℕ) (least : g ≡ min (b .fault) (baseFault (b .variable) (b .odd) (b .at))) (e : Found) (soon : List ℕ)
-        (read : BracketRead l (b .at + 1) (b .nodes) g then e soon) where
+        (read : BracketRead width l (b .at + 1) (b .nodes) g then e soon) where
       past-open : (lv : Level) → run (operand lv) at (drop at l)
           ≡ run (operand (fresh (inExponent lv (base .t) (b .at)))) (b .at + 1 + 1) (drop (b .at + 1 + 1) l)
       unfolding step beforeExponent byteOf
       past-open lv = past-caret lv ∙ run-byte (afterCaret lv (base .t) (b .at)) l (b .at + 1) 40 opens (omega arith)
 
-      pub raise-lost : e .ok ≡ false → PowerRead l at n f out e soon
+      pub raise-lost : e .ok ≡ false → PowerRead width l at n f out e soon
       raise-lost no-tree = fails no-tree (λ lv. past-open lv ∙ lost read no-tree (exponent lv (base .t) (b .at)))
 
       pub power-raise : e .ok ≡ true → (r : Found) (now : List ℕ) → r ≡ finding (b .variable || e .variable) 1 (e .at) (e .nodes + 1) (e .fault)
-          → now ≡ put soon (e .nodes) 8 0 → PowerRead l at n f out r now
+          → now ≡ put soon (e .nodes) 8 0 → PowerRead width l at n f out r now
       unfolding holdsX parity nodes faulted wrote
       power-raise some r now q w = go (got read some)
         where
-          go : Got Enclosing opened enclosed Anything l (b .at + 1 + 1) (b .nodes) g then e soon → PowerRead l at n f out r now
+          go : Got width Enclosing opened enclosed Anything l (b .at + 1 + 1) (b .nodes) g then e soon → PowerRead width l at n f out r now
           go x =
               let counted : e .nodes ≡ n + nodes (base .t) + nodes (x .t) = x .counted ∙ ap (λ k. k + nodes (x .t)) (base .counted) in
               gets (raise (base .t) (b .at) (x .t)) (e .at)
@@ -248,9 +249,9 @@ module _ (l : List ℕ) (at n f : ℕ) (out : List ℕ) where
               refl
               (omega arith)
               (ap (λ (y : Found). y .fault) (x .is)
-              ∙ ap (λ h. faulted 64 (x .t) h)
+              ∙ ap (λ h. faulted width (x .t) h)
               (least ∙ ap (λ (y : Found). min (y .fault) (baseFault (y .variable) (y .odd) (b .at))) (base .is))))
-              (w ∙ ap₂ (λ z k. put z k 8 0) (x .writes ∙ ap₂ (λ k z. wrote 64 (x .t) k z) (base .counted) (base .writes)) counted)
+              (w ∙ ap₂ (λ z k. put z k 8 0) (x .writes ∙ ap₂ (λ k z. wrote width (x .t) k z) (base .counted) (base .writes)) counted)
               (omega (arith, base .onward, x .onward)) (x .inside) (omega (arith, base .room, x .room)) tt
               (λ lv. past-open lv ∙ x .runs (exponent lv (base .t) (b .at)))
 
@@ -276,15 +277,15 @@ module _ (t : Tree) where
   negatives-nodes zero = omega arith
   negatives-nodes (suc k) = omega (arith, negatives-nodes k)
 
-  negatives-faulted : (k f : ℕ) → faulted 64 (negatives k t) f ≡ faulted 64 t f
+  negatives-faulted : (width k f : ℕ) → faulted width (negatives k t) f ≡ faulted width t f
   unfolding negatives faulted
-  negatives-faulted zero f = refl
-  negatives-faulted (suc k) f = negatives-faulted k f
+  negatives-faulted width zero f = refl
+  negatives-faulted width (suc k) f = negatives-faulted width k f
 
-  negatives-wrote : (k n : ℕ) (out : List ℕ) → wrote 64 (negatives k t) n out ≡ wroteMinus k (n + nodes t) (wrote 64 t n out)
+  negatives-wrote : (width k n : ℕ) (out : List ℕ) → wrote width (negatives k t) n out ≡ wroteMinus k (n + nodes t) (wrote width t n out)
   unfolding negatives wrote wroteMinus
-  negatives-wrote zero n out = refl
-  negatives-wrote (suc k) n out = ap₂ (λ l j. put l j 6 0) (negatives-wrote k n out) (omega (arith, negatives-nodes k))
+  negatives-wrote width zero n out = refl
+  negatives-wrote width (suc k) n out = ap₂ (λ l j. put l j 6 0) (negatives-wrote width k n out) (omega (arith, negatives-nodes k))
 
 minus-fold : (l : List ℕ) (p : ℕ) (σ : PendingSum) (π : PendingProduct) (m k : ℕ) (o : Outer) (t : Tree)
     → run (powered (level σ π (m + k) o) t) p (drop p l) ≡ run (powered (level σ π m o) (negatives k t)) p (drop p l)
@@ -312,8 +313,8 @@ minus-fold l p σ π m k o t =
     end (inBrackets lv) = refl
     end (inExponent lv a q) = refl
 
-module _ (l : List ℕ) (at q n f : ℕ) (out : List ℕ) (b : Found) (then : List ℕ) (signs : MinusSigns l at q) (read : PowerRead l q n f out b then) where
-  pub factor-lost : b .ok ≡ false → PowerRead l at n f out b then
+module _ {width : ℕ} (l : List ℕ) (at q n f : ℕ) (out : List ℕ) (b : Found) (then : List ℕ) (signs : MinusSigns l at q) (read : PowerRead width l q n f out b then) where
+  pub factor-lost : b .ok ≡ false → PowerRead width l at n f out b then
   factor-lost no-tree = fails no-tree (λ lv. go lv)
     where
       go : (lv : Level) → run (operand lv) at (drop at l) ≡ stops (b .at)
@@ -321,10 +322,10 @@ module _ (l : List ℕ) (at q n f : ℕ) (out : List ℕ) (b : Found) (then : Li
 
   pub factor-got : b .ok ≡ true → (r : Found) (now : List ℕ)
       → r ≡ finding (b .variable) (b .odd) (b .at) (b .nodes + (q - at)) (b .fault) → now ≡ wroteMinus (q - at) (b .nodes) then
-      → PowerRead l at n f out r now
+      → PowerRead width l at n f out r now
   factor-got some r now e w = go (got read some)
     where
-      go : Got Level operand powered Anything l q n f out b then → PowerRead l at n f out r now
+      go : Got width Level operand powered Anything l q n f out b then → PowerRead width l at n f out r now
       go x =
           gets (negatives (q - at) (x .t)) (b .at)
           (e
@@ -332,8 +333,8 @@ module _ (l : List ℕ) (at q n f : ℕ) (out : List ℕ) (b : Found) (then : Li
           (ap (λ (y : Found). y .variable) (x .is) ∙ sym (negatives-hold (x .t) (q - at)))
           (ap (λ (y : Found). y .odd) (x .is) ∙ sym (negatives-parity (x .t) (q - at)))
           (omega (arith, x .counted, negatives-nodes (x .t) (q - at)))
-          (ap (λ (y : Found). y .fault) (x .is) ∙ sym (negatives-faulted (x .t) (q - at) f)))
-          (w ∙ ap₂ (λ k z. wroteMinus (q - at) k z) (x .counted) (x .writes) ∙ sym (negatives-wrote (x .t) (q - at) n out))
+          (ap (λ (y : Found). y .fault) (x .is) ∙ sym (negatives-faulted (x .t) width (q - at) f)))
+          (w ∙ ap₂ (λ k z. wroteMinus (q - at) k z) (x .counted) (x .writes) ∙ sym (negatives-wrote (x .t) width (q - at) n out))
           (omega (arith, x .onward, signs .onward)) (x .inside) (omega (arith, x .room, signs .onward, negatives-nodes (x .t) (q - at))) tt
           (λ lv. runs lv)
         where
@@ -365,12 +366,12 @@ product-fold l p σ o a u =
     end (inExponent lv b q) = refl
 
 -- What was read before the next factor: nothing, or a product and a *.
-pub data ProductSoFar (l : List ℕ) (at n f : ℕ) (out : List ℕ) (left : Found) (joined : Bool) (now : List ℕ) : Type 0 where
-  none-yet : joined ≡ false → left ≡ finding false 0 at n f → now ≡ out → ProductSoFar l at n f out left joined now
-  times-next : (t : Tree) (p : ℕ) → joined ≡ true → left ≡ finding (holdsX t) (parity t) (p + 1) (n + nodes t) (faulted 64 t f)
-      → now ≡ wrote 64 t n out → at < p → p + 1 ≤ length l → at + nodes t ≤ p
+pub data ProductSoFar (width : ℕ) (l : List ℕ) (at n f : ℕ) (out : List ℕ) (left : Found) (joined : Bool) (now : List ℕ) : Type 0 where
+  none-yet : joined ≡ false → left ≡ finding false 0 at n f → now ≡ out → ProductSoFar width l at n f out left joined now
+  times-next : (t : Tree) (p : ℕ) → joined ≡ true → left ≡ finding (holdsX t) (parity t) (p + 1) (n + nodes t) (faulted width t f)
+      → now ≡ wrote width t n out → at < p → p + 1 ≤ length l → at + nodes t ≤ p
       → ((c : InSum) → run (operand (inSum c)) at (drop at l) ≡ run (operand (level (c .0) (multiplying t) 0 (c .1))) (p + 1) (drop (p + 1) l))
-      → ProductSoFar l at n f out left joined now
+      → ProductSoFar width l at n f out left joined now
 
 -- Where the next part begins: inside the text, with no more nodes than bytes.
 pub record Onward (l : List ℕ) (at n : ℕ) (left : Found) : Type 0 where
@@ -379,8 +380,8 @@ pub record Onward (l : List ℕ) (at n : ℕ) (left : Found) : Type 0 where
   pub few : n ≤ at → left .nodes ≤ left .at
   pub odd-small : left .odd < 2
 
-pub product-onward : {l : List ℕ} {at n f : ℕ} {out : List ℕ} {left : Found} {joined : Bool} {now : List ℕ} → at ≤ length l
-    → ProductSoFar l at n f out left joined now → Onward l at n left
+pub product-onward : {width : ℕ} {l : List ℕ} {at n f : ℕ} {out : List ℕ} {left : Found} {joined : Bool} {now : List ℕ} → at ≤ length l
+    → ProductSoFar width l at n f out left joined now → Onward l at n left
 product-onward {left = left} h (none-yet j e w) =
     let place : left .at ≡ _ = ap (λ (x : Found). x .at) e in
     let count : left .nodes ≡ _ = ap (λ (x : Found). x .nodes) e in
@@ -393,19 +394,19 @@ product-onward {left = left} h (times-next t p j e w a b c d) =
     record { after = omega arith; inside = omega arith; few = λ k. omega arith; odd-small = omega (arith, parity-small t) }
 
 -- A product, with nothing said of the byte after it.
-abbrev pub WholeProduct : List ℕ → ℕ → ℕ → ℕ → List ℕ → Found → List ℕ → Type 0
-WholeProduct = Got InSum (λ c. operand (inSum c)) (λ c t. powered (inSum c) t) Anything
+abbrev pub WholeProduct : ℕ → List ℕ → ℕ → ℕ → ℕ → List ℕ → Found → List ℕ → Type 0
+WholeProduct width = Got width InSum (λ c. operand (inSum c)) (λ c t. powered (inSum c) t) Anything
 
-module _ {l : List ℕ} {at n f : ℕ} {out : List ℕ} where
-  pub product-starts : (left : Found) → left ≡ finding false 0 at n f → ProductSoFar l at n f out left false out
+module _ {width : ℕ} {l : List ℕ} {at n f : ℕ} {out : List ℕ} where
+  pub product-starts : (left : Found) → left ≡ finding false 0 at n f → ProductSoFar width l at n f out left false out
   product-starts left e = none-yet refl e refl
 
-  module _ {left right : Found} {joined : Bool} {now soon : List ℕ} (so : ProductSoFar l at n f out left joined now)
-      (read : PowerRead l (left .at) (left .nodes) (left .fault) now right soon) where
-    pub product-lost : right .ok ≡ false → ProductRead l at n f out right soon
+  module _ {left right : Found} {joined : Bool} {now soon : List ℕ} (so : ProductSoFar width l at n f out left joined now)
+      (read : PowerRead width l (left .at) (left .nodes) (left .fault) now right soon) where
+    pub product-lost : right .ok ≡ false → ProductRead width l at n f out right soon
     product-lost no-tree = go so
       where
-        go : ProductSoFar l at n f out left joined now → ProductRead l at n f out right soon
+        go : ProductSoFar width l at n f out left joined now → ProductRead width l at n f out right soon
         go (none-yet j e w) =
             fails no-tree (λ c. ap (λ q. run (operand (inSum c)) q (drop q l)) (sym (ap (λ (x : Found). x .at) e)) ∙ lost read no-tree (inSum c))
         go (times-next t p j e w a b c d) =
@@ -413,12 +414,12 @@ module _ {l : List ℕ} {at n f : ℕ} {out : List ℕ} where
             ∙ lost read no-tree (level (c .0) (multiplying t) 0 (c .1)))
 
     pub product-joined : right .ok ≡ true → (r : Found) (then : List ℕ) → r ≡ cond joined (productFound left right) right
-        → then ≡ cond joined (put soon (right .nodes) 5 0) soon → WholeProduct l at n f out r then
+        → then ≡ cond joined (put soon (right .nodes) 5 0) soon → WholeProduct width l at n f out r then
     unfolding holdsX parity nodes faulted wrote
     product-joined some r then q v = go so (got read some)
       where
-        go : ProductSoFar l at n f out left joined now → Got Level operand powered Anything l (left .at) (left .nodes) (left .fault) now right soon
-            → WholeProduct l at n f out r then
+        go : ProductSoFar width l at n f out left joined now → Got width Level operand powered Anything l (left .at) (left .nodes) (left .fault) now right soon
+            → WholeProduct width l at n f out r then
         go (none-yet j e w) x =
             let whole : r ≡ right = q ∙ ap (λ b. cond b (productFound left right) right) j in
             let place : left .at ≡ at = ap (λ (y : Found). y .at) e in
@@ -426,8 +427,8 @@ module _ {l : List ℕ} {at n f : ℕ} {out : List ℕ} where
             let count : left .nodes ≡ n = ap (λ (y : Found). y .nodes) e in
             record {
               t = x .t;
-              is = whole ∙ x .is ∙ ap₂ (λ k g. found 64 (x .t) (right .at) k g) count (ap (λ (y : Found). y .fault) e) ∙ ap (λ k. found 64 (x .t) k n f) (sym end);
-              writes = v ∙ ap (λ b. cond b (put soon (right .nodes) 5 0) soon) j ∙ x .writes ∙ ap₂ (λ k z. wrote 64 (x .t) k z) count w;
+              is = whole ∙ x .is ∙ ap₂ (λ k g. found width (x .t) (right .at) k g) count (ap (λ (y : Found). y .fault) e) ∙ ap (λ k. found width (x .t) k n f) (sym end);
+              writes = v ∙ ap (λ b. cond b (put soon (right .nodes) 5 0) soon) j ∙ x .writes ∙ ap₂ (λ k z. wrote width (x .t) k z) count w;
               onward = omega (arith, x .onward);
               inside = omega (arith, x .inside);
               room = omega (arith, x .room);
@@ -448,10 +449,10 @@ module _ {l : List ℕ} {at n f : ℕ} {out : List ℕ} where
                   (ap₂ _||_ (ap (λ (y : Found). y .variable) e) (ap (λ (y : Found). y .variable) (x .is)))
                   (ap₂ _*_ (ap (λ (y : Found). y .odd) e) (ap (λ (y : Found). y .odd) (x .is)))
                   (omega arith)
-                  (ap (λ (y : Found). y .fault) (x .is) ∙ ap (λ g. faulted 64 (x .t) g) (ap (λ (y : Found). y .fault) e))
-                  ∙ ap (λ k. found 64 (product t (x .t)) k n f) (sym end);
+                  (ap (λ (y : Found). y .fault) (x .is) ∙ ap (λ g. faulted width (x .t) g) (ap (λ (y : Found). y .fault) e))
+                  ∙ ap (λ k. found width (product t (x .t)) k n f) (sym end);
               writes = v ∙ ap (λ b. cond b (put soon (right .nodes) 5 0) soon) j
-                  ∙ ap₂ (λ z k. put z k 5 0) (x .writes ∙ ap₂ (λ k z. wrote 64 (x .t) k z) count w) total;
+                  ∙ ap₂ (λ z k. put z k 5 0) (x .writes ∙ ap₂ (λ k z. wrote width (x .t) k z) count w) total;
               onward = omega (arith, x .onward);
               inside = omega (arith, x .inside);
               room = omega (arith, x .room);
@@ -463,12 +464,12 @@ module _ {l : List ℕ} {at n f : ℕ} {out : List ℕ} where
                   ∙ ap (λ k. run (powered (inSum c) (product t (x .t))) k (drop k l)) (sym end);
             }
 
-  module _ {r : Found} {then : List ℕ} (whole : WholeProduct l at n f out r then) where
-    pub product-ends : (getD l (r .at) 0 ≡ 42 → ⊥) → ProductRead l at n f out r then
+  module _ {r : Found} {then : List ℕ} (whole : WholeProduct width l at n f out r then) where
+    pub product-ends : (getD l (r .at) 0 ≡ 42 → ⊥) → ProductRead width l at n f out r then
     product-ends none = gets (whole .t) (r .at) (whole .is) (whole .writes) (whole .onward) (whole .inside) (whole .room) none (whole .runs)
 
     pub product-goes-on : getD l (r .at) 0 ≡ 42 → (left : Found) → left ≡ finding (r .variable) (r .odd) (r .at + 1) (r .nodes) (r .fault)
-        → ProductSoFar l at n f out left true then
+        → ProductSoFar width l at n f out left true then
     unfolding step afterPower byteOf productWith negatives
     product-goes-on e left q =
         times-next (whole .t) (r .at) refl
@@ -509,21 +510,21 @@ module _ (s : ℕ) (t u : Tree) where
       go true = refl
       go false = refl
 
-  signed-faulted : (f : ℕ) → faulted 64 (signedTree s t u) f ≡ faulted 64 u (faulted 64 t f)
+  signed-faulted : (width f : ℕ) → faulted width (signedTree s t u) f ≡ faulted width u (faulted width t f)
   unfolding faulted
-  signed-faulted f = go (eqb s 43)
+  signed-faulted width f = go (eqb s 43)
     where
-      go : (b : Bool) → faulted 64 (cond b (sum t u) (difference t u)) f ≡ faulted 64 u (faulted 64 t f)
+      go : (b : Bool) → faulted width (cond b (sum t u) (difference t u)) f ≡ faulted width u (faulted width t f)
       go true = refl
       go false = refl
 
-  signed-wrote : (n : ℕ) (out : List ℕ)
-      → wrote 64 (signedTree s t u) n out ≡ put (wrote 64 u (n + nodes t) (wrote 64 t n out)) (n + nodes t + nodes u) (cond (eqb s 43) 3 4) 0
+  signed-wrote : (width n : ℕ) (out : List ℕ)
+      → wrote width (signedTree s t u) n out ≡ put (wrote width u (n + nodes t) (wrote width t n out)) (n + nodes t + nodes u) (cond (eqb s 43) 3 4) 0
   unfolding wrote
-  signed-wrote n out = go (eqb s 43)
+  signed-wrote width n out = go (eqb s 43)
     where
-      go : (b : Bool) → wrote 64 (cond b (sum t u) (difference t u)) n out
-          ≡ put (wrote 64 u (n + nodes t) (wrote 64 t n out)) (n + nodes t + nodes u) (cond b 3 4) 0
+      go : (b : Bool) → wrote width (cond b (sum t u) (difference t u)) n out
+          ≡ put (wrote width u (n + nodes t) (wrote width t n out)) (n + nodes t + nodes u) (cond b 3 4) 0
       go true = refl
       go false = refl
 
@@ -561,15 +562,15 @@ module _ (s : ℕ) (t u : Tree) where
           end b (inExponent lv a q) = refl
 
 -- What was read before the next product: nothing, or a sum and a sign.
-pub data SumSoFar (l : List ℕ) (at n f : ℕ) (out : List ℕ) (left : Found) (sign : ℕ) (now : List ℕ) : Type 0 where
-  none-yet : sign ≡ 0 → left ≡ finding false 0 at n f → now ≡ out → SumSoFar l at n f out left sign now
-  sign-next : (t : Tree) (p : ℕ) → (sign ≡ 0 → ⊥) → left ≡ finding (holdsX t) (parity t) (p + 1) (n + nodes t) (faulted 64 t f)
-      → now ≡ wrote 64 t n out → at < p → p + 1 ≤ length l → at + nodes t ≤ p
+pub data SumSoFar (width : ℕ) (l : List ℕ) (at n f : ℕ) (out : List ℕ) (left : Found) (sign : ℕ) (now : List ℕ) : Type 0 where
+  none-yet : sign ≡ 0 → left ≡ finding false 0 at n f → now ≡ out → SumSoFar width l at n f out left sign now
+  sign-next : (t : Tree) (p : ℕ) → (sign ≡ 0 → ⊥) → left ≡ finding (holdsX t) (parity t) (p + 1) (n + nodes t) (faulted width t f)
+      → now ≡ wrote width t n out → at < p → p + 1 ≤ length l → at + nodes t ≤ p
       → ((o : Outer) → run (operand (fresh o)) at (drop at l) ≡ run (operand (level (signed sign t) noProduct 0 o)) (p + 1) (drop (p + 1) l))
-      → SumSoFar l at n f out left sign now
+      → SumSoFar width l at n f out left sign now
 
-pub sum-onward : {l : List ℕ} {at n f : ℕ} {out : List ℕ} {left : Found} {sign : ℕ} {now : List ℕ} → at ≤ length l
-    → SumSoFar l at n f out left sign now → Onward l at n left
+pub sum-onward : {width : ℕ} {l : List ℕ} {at n f : ℕ} {out : List ℕ} {left : Found} {sign : ℕ} {now : List ℕ} → at ≤ length l
+    → SumSoFar width l at n f out left sign now → Onward l at n left
 sum-onward {left = left} h (none-yet j e w) =
     let place : left .at ≡ _ = ap (λ (x : Found). x .at) e in
     let count : left .nodes ≡ _ = ap (λ (x : Found). x .nodes) e in
@@ -582,19 +583,19 @@ sum-onward {left = left} h (sign-next t p j e w a b c d) =
     record { after = omega arith; inside = omega arith; few = λ k. omega arith; odd-small = omega (arith, parity-small t) }
 
 -- A sum, with only * ruled out as the byte after it.
-abbrev pub WholeSum : List ℕ → ℕ → ℕ → ℕ → List ℕ → Found → List ℕ → Type 0
-WholeSum = Got Outer (λ o. operand (fresh o)) (λ o t. powered (fresh o) t) NoStar
+abbrev pub WholeSum : ℕ → List ℕ → ℕ → ℕ → ℕ → List ℕ → Found → List ℕ → Type 0
+WholeSum width = Got width Outer (λ o. operand (fresh o)) (λ o t. powered (fresh o) t) NoStar
 
-module _ {l : List ℕ} {at n f : ℕ} {out : List ℕ} where
-  pub sum-starts : (left : Found) → left ≡ finding false 0 at n f → SumSoFar l at n f out left 0 out
+module _ {width : ℕ} {l : List ℕ} {at n f : ℕ} {out : List ℕ} where
+  pub sum-starts : (left : Found) → left ≡ finding false 0 at n f → SumSoFar width l at n f out left 0 out
   sum-starts left e = none-yet refl e refl
 
-  module _ {left right : Found} {sign : ℕ} {now soon : List ℕ} (so : SumSoFar l at n f out left sign now)
-      (read : ProductRead l (left .at) (left .nodes) (left .fault) now right soon) where
-    pub sum-lost : right .ok ≡ false → SumRead l at n f out right soon
+  module _ {left right : Found} {sign : ℕ} {now soon : List ℕ} (so : SumSoFar width l at n f out left sign now)
+      (read : ProductRead width l (left .at) (left .nodes) (left .fault) now right soon) where
+    pub sum-lost : right .ok ≡ false → SumRead width l at n f out right soon
     sum-lost no-tree = go so
       where
-        go : SumSoFar l at n f out left sign now → SumRead l at n f out right soon
+        go : SumSoFar width l at n f out left sign now → SumRead width l at n f out right soon
         go (none-yet j e w) =
             fails no-tree (λ o. ap (λ q. run (operand (fresh o)) q (drop q l)) (sym (ap (λ (x : Found). x .at) e)) ∙ lost read no-tree (noSum, o))
         go (sign-next t p j e w a b c d) =
@@ -602,12 +603,12 @@ module _ {l : List ℕ} {at n f : ℕ} {out : List ℕ} where
             ∙ lost read no-tree (signed sign t, o))
 
     pub sum-joined : right .ok ≡ true → (r : Found) (then : List ℕ) → r ≡ cond (eqb sign 0) right (sumFound left right)
-        → then ≡ cond (eqb sign 0) soon (put soon (right .nodes) (cond (eqb sign 43) 3 4) 0) → WholeSum l at n f out r then
+        → then ≡ cond (eqb sign 0) soon (put soon (right .nodes) (cond (eqb sign 43) 3 4) 0) → WholeSum width l at n f out r then
     sum-joined some r then q v = go so (got read some)
       where
-        go : SumSoFar l at n f out left sign now
-            → Got InSum (λ c. operand (inSum c)) (λ c t. powered (inSum c) t) NoStar l (left .at) (left .nodes) (left .fault) now right soon
-            → WholeSum l at n f out r then
+        go : SumSoFar width l at n f out left sign now
+            → Got width InSum (λ c. operand (inSum c)) (λ c t. powered (inSum c) t) NoStar l (left .at) (left .nodes) (left .fault) now right soon
+            → WholeSum width l at n f out r then
         go (none-yet j e w) x =
             let zero-sign : eqb sign 0 ≡ true = eq-eqb sign 0 j in
             let whole : r ≡ right = q ∙ ap (λ b. cond b right (sumFound left right)) zero-sign in
@@ -616,8 +617,8 @@ module _ {l : List ℕ} {at n f : ℕ} {out : List ℕ} where
             let count : left .nodes ≡ n = ap (λ (y : Found). y .nodes) e in
             record {
               t = x .t;
-              is = whole ∙ x .is ∙ ap₂ (λ k g. found 64 (x .t) (right .at) k g) count (ap (λ (y : Found). y .fault) e) ∙ ap (λ k. found 64 (x .t) k n f) (sym end);
-              writes = v ∙ ap (λ b. cond b soon (put soon (right .nodes) (cond (eqb sign 43) 3 4) 0)) zero-sign ∙ x .writes ∙ ap₂ (λ k z. wrote 64 (x .t) k z) count w;
+              is = whole ∙ x .is ∙ ap₂ (λ k g. found width (x .t) (right .at) k g) count (ap (λ (y : Found). y .fault) e) ∙ ap (λ k. found width (x .t) k n f) (sym end);
+              writes = v ∙ ap (λ b. cond b soon (put soon (right .nodes) (cond (eqb sign 43) 3 4) 0)) zero-sign ∙ x .writes ∙ ap₂ (λ k z. wrote width (x .t) k z) count w;
               onward = omega (arith, x .onward);
               inside = omega (arith, x .inside);
               room = omega (arith, x .room);
@@ -640,11 +641,11 @@ module _ {l : List ℕ} {at n f : ℕ} {out : List ℕ} where
                   (ap₂ _||_ (ap (λ (y : Found). y .variable) e) (ap (λ (y : Found). y .variable) (x .is)) ∙ sym (signed-holds sign t (x .t)))
                   (ap₂ (λ y z. (y + z) % 2) (ap (λ (y : Found). y .odd) e) (ap (λ (y : Found). y .odd) (x .is)) ∙ sym (signed-parity sign t (x .t)))
                   (omega arith)
-                  (ap (λ (y : Found). y .fault) (x .is) ∙ ap (λ g. faulted 64 (x .t) g) (ap (λ (y : Found). y .fault) e) ∙ sym (signed-faulted sign t (x .t) f))
-                  ∙ ap (λ k. found 64 (signedTree sign t (x .t)) k n f) (sym end);
+                  (ap (λ (y : Found). y .fault) (x .is) ∙ ap (λ g. faulted width (x .t) g) (ap (λ (y : Found). y .fault) e) ∙ sym (signed-faulted sign t (x .t) width f))
+                  ∙ ap (λ k. found width (signedTree sign t (x .t)) k n f) (sym end);
               writes = v ∙ ap (λ b. cond b soon (put soon (right .nodes) (cond (eqb sign 43) 3 4) 0)) some-sign
-                  ∙ ap₂ (λ z k. put z k (cond (eqb sign 43) 3 4) 0) (x .writes ∙ ap₂ (λ k z. wrote 64 (x .t) k z) count w) total
-                  ∙ sym (signed-wrote sign t (x .t) n out);
+                  ∙ ap₂ (λ z k. put z k (cond (eqb sign 43) 3 4) 0) (x .writes ∙ ap₂ (λ k z. wrote width (x .t) k z) count w) total
+                  ∙ sym (signed-wrote sign t (x .t) width n out);
               onward = omega (arith, x .onward);
               inside = omega (arith, x .inside);
               room = omega (arith, x .room);
@@ -656,8 +657,8 @@ module _ {l : List ℕ} {at n f : ℕ} {out : List ℕ} where
                   ∙ ap (λ k. run (powered (fresh o) (signedTree sign t (x .t))) k (drop k l)) (sym end);
             }
 
-  module _ {r : Found} {then : List ℕ} (whole : WholeSum l at n f out r then) where
-    pub sum-ends : (eqb (getD l (r .at) 0) 43 || eqb (getD l (r .at) 0) 45) ≡ false → SumRead l at n f out r then
+  module _ {r : Found} {then : List ℕ} (whole : WholeSum width l at n f out r then) where
+    pub sum-ends : (eqb (getD l (r .at) 0) 43 || eqb (getD l (r .at) 0) 45) ≡ false → SumRead width l at n f out r then
     sum-ends e =
         gets (whole .t) (r .at) (whole .is) (whole .writes) (whole .onward) (whole .inside) (whole .room)
         (whole .next, no-plus (eqb (getD l (r .at) 0) 43) refl e, no-minus (eqb (getD l (r .at) 0) 43) (eqb (getD l (r .at) 0) 45) refl e) (whole .runs)
@@ -672,7 +673,7 @@ module _ {l : List ℕ} {at n f : ℕ} {out : List ℕ} where
         no-minus false false p q = eqb-false (getD l (r .at) 0) 45 p
 
     pub sum-goes-on : (eqb (getD l (r .at) 0) 43 || eqb (getD l (r .at) 0) 45) ≡ true → (left : Found) (sign : ℕ) → sign ≡ getD l (r .at) 0
-        → left ≡ finding (r .variable) (r .odd) (r .at + 1) (r .nodes) (r .fault) → SumSoFar l at n f out left sign then
+        → left ≡ finding (r .variable) (r .odd) (r .at + 1) (r .nodes) (r .fault) → SumSoFar width l at n f out left sign then
     unfolding step afterPower byteOf sumWith productWith negatives
     sum-goes-on e left sign s q =
         sign-next (whole .t) (r .at) (is-some (getD l (r .at) 0) s e)
@@ -718,18 +719,18 @@ no-close l p o t signs none end = run-stop (powered (fresh o) t) l p (go (byteOf
     go (digitByte d) i = refl
     go otherByte i = refl
 
-abbrev pub WholeBracket : List ℕ → ℕ → ℕ → ℕ → List ℕ → Found → List ℕ → Type 0
-WholeBracket = Got Outer (λ o. operand (fresh o)) (λ o t. powered (fresh o) t) NoSign
+abbrev pub WholeBracket : ℕ → List ℕ → ℕ → ℕ → ℕ → List ℕ → Found → List ℕ → Type 0
+WholeBracket width = Got width Outer (λ o. operand (fresh o)) (λ o t. powered (fresh o) t) NoSign
 
-module _ (l : List ℕ) (at n f : ℕ) (out : List ℕ) (s : Found) (now : List ℕ) where
-  pub bracket-lost : SumRead l (at + 1) n f out s now → s .ok ≡ false → (r : Found) → r ≡ stopping (s .at) → BracketRead l at n f out r now
+module _ {width : ℕ} (l : List ℕ) (at n f : ℕ) (out : List ℕ) (s : Found) (now : List ℕ) where
+  pub bracket-lost : SumRead width l (at + 1) n f out s now → s .ok ≡ false → (r : Found) → r ≡ stopping (s .at) → BracketRead width l at n f out r now
   bracket-lost read no-tree r q = fails (ap (λ (x : Found). x .ok) q) (λ c. go c ∙ ap (λ p. stops p) (sym (ap (λ (x : Found). x .at) q)))
     where
       go : (c : Enclosing) → run (opened c) (at + 1) (drop (at + 1) l) ≡ stops (s .at)
       go (brackets lv) = lost read no-tree (inBrackets lv)
       go (exponent lv a p) = lost read no-tree (inExponent lv a p)
 
-  pub bracket-open : WholeBracket l (at + 1) n f out s now → (getD l (s .at) 0 ≡ 41 → ⊥) → (r : Found) → r ≡ stopping (s .at) → BracketRead l at n f out r now
+  pub bracket-open : WholeBracket width l (at + 1) n f out s now → (getD l (s .at) 0 ≡ 41 → ⊥) → (r : Found) → r ≡ stopping (s .at) → BracketRead width l at n f out r now
   unfolding ending ended
   bracket-open whole none r q = fails (ap (λ (x : Found). x .ok) q) (λ c. go c ∙ ap (λ p. stops p) (sym (ap (λ (x : Found). x .at) q)))
     where
@@ -737,8 +738,8 @@ module _ (l : List ℕ) (at n f : ℕ) (out : List ℕ) (s : Found) (now : List 
       go (brackets lv) = whole .runs (inBrackets lv) ∙ no-close l (s .at) (inBrackets lv) (whole .t) (whole .next) none refl
       go (exponent lv a p) = whole .runs (inExponent lv a p) ∙ no-close l (s .at) (inExponent lv a p) (whole .t) (whole .next) none refl
 
-  pub bracket-closed : WholeBracket l (at + 1) n f out s now → getD l (s .at) 0 ≡ 41 → (r : Found)
-      → r ≡ finding (s .variable) (s .odd) (s .at + 1) (s .nodes) (s .fault) → BracketRead l at n f out r now
+  pub bracket-closed : WholeBracket width l (at + 1) n f out s now → getD l (s .at) 0 ≡ 41 → (r : Found)
+      → r ≡ finding (s .variable) (s .odd) (s .at + 1) (s .nodes) (s .fault) → BracketRead width l at n f out r now
   unfolding step afterPower byteOf closed sumWith productWith negatives
   bracket-closed whole e r q =
       gets (whole .t) (s .at + 1)
@@ -750,8 +751,8 @@ module _ (l : List ℕ) (at n f : ℕ) (out : List ℕ) (s : Found) (now : List 
       go (exponent lv a p) = whole .runs (inExponent lv a p) ∙ run-byte (powered (fresh (inExponent lv a p)) (whole .t)) l (s .at) 41 e (omega arith)
 
 -- ---- what the callers ask of an answer
-module _ {C : Type 0} {from : C → State} {to : C → Tree → State} {Next : ℕ → Type 0} {l : List ℕ} {at n f : ℕ} {out : List ℕ} {r : Found} {now : List ℕ}
-    (g : Got C from to Next l at n f out r now) where
+module _ {width : ℕ} {C : Type 0} {from : C → State} {to : C → Tree → State} {Next : ℕ → Type 0} {l : List ℕ} {at n f : ℕ} {out : List ℕ} {r : Found} {now : List ℕ}
+    (g : Got width C from to Next l at n f out r now) where
   pub got-odd : r .odd < 2
   got-odd = let odd : r .odd ≡ parity (g .t) = ap (λ (x : Found). x .odd) (g .is) in omega (arith, parity-small (g .t))
 

@@ -64,8 +64,8 @@ faulted w (literalPower a p n) f = min (faulted w a f) (literalFault w p n)
 faulted w (raise a p b) f = faulted w b (min (faulted w a f) (baseFault (holdsX a) (parity a) p))
 
 -- The least fault of a tree, refusal 7 for its count of nodes among them; `noFault` if there is none.
-abbrev pub code : Tree → ℕ
-code t = min (faulted 64 t noFault) (cond (ltb mostNodes (nodes t)) (faultCode 7 0) noFault)
+abbrev pub code : ℕ → Tree → ℕ
+code w t = min (faulted w t noFault) (cond (ltb mostNodes (nodes t)) (faultCode 7 0) noFault)
 
 -- Node n, its kind and its word, put where there is room for it.
 abbrev pub put : List ℕ → ℕ → ℕ → ℕ → List ℕ
@@ -120,11 +120,11 @@ found w t p n f = finding (holdsX t) (parity t) p (n + nodes t) (faulted w t f)
 -- ---- readers
 -- A reader takes the scan from `from c` to `to c t` in every context c, or the scan stops where the reader says.
 -- `Next` is what it says of the byte after the tree (0 at the end of the text).
-pub data Read (C : Type 0) (from : C → State) (to : C → Tree → State) (Next : ℕ → Type 0)
+pub data Read (w : ℕ) (C : Type 0) (from : C → State) (to : C → Tree → State) (Next : ℕ → Type 0)
     (l : List ℕ) (at n f : ℕ) (out : List ℕ) (r : Found) (now : List ℕ) : Type 0 where
-  fails : r .ok ≡ false → ((c : C) → run (from c) at (drop at l) ≡ stops (r .at)) → Read C from to Next l at n f out r now
-  gets : (t : Tree) (p : ℕ) → r ≡ found 64 t p n f → now ≡ wrote 64 t n out → at < p → p ≤ length l → at + nodes t ≤ p → Next (getD l p 0)
-      → ((c : C) → run (from c) at (drop at l) ≡ run (to c t) p (drop p l)) → Read C from to Next l at n f out r now
+  fails : r .ok ≡ false → ((c : C) → run (from c) at (drop at l) ≡ stops (r .at)) → Read w C from to Next l at n f out r now
+  gets : (t : Tree) (p : ℕ) → r ≡ found w t p n f → now ≡ wrote w t n out → at < p → p ≤ length l → at + nodes t ≤ p → Next (getD l p 0)
+      → ((c : C) → run (from c) at (drop at l) ≡ run (to c t) p (drop p l)) → Read w C from to Next l at n f out r now
 
 abbrev pub Anything : ℕ → Type 0
 Anything c = Unit {0}
@@ -155,28 +155,28 @@ abbrev pub enclosed : Enclosing → Tree → State
 enclosed (brackets lv) t = atomed lv t
 enclosed (exponent lv a p) t = powered lv (raise a p t)
 
-abbrev pub SumRead : List ℕ → ℕ → ℕ → ℕ → List ℕ → Found → List ℕ → Type 0
-SumRead = Read Outer (λ o. operand (fresh o)) (λ o t. powered (fresh o) t) NoSign
+abbrev pub SumRead : ℕ → List ℕ → ℕ → ℕ → ℕ → List ℕ → Found → List ℕ → Type 0
+SumRead w = Read w Outer (λ o. operand (fresh o)) (λ o t. powered (fresh o) t) NoSign
 
-abbrev pub ProductRead : List ℕ → ℕ → ℕ → ℕ → List ℕ → Found → List ℕ → Type 0
-ProductRead = Read InSum (λ c. operand (inSum c)) (λ c t. powered (inSum c) t) NoStar
+abbrev pub ProductRead : ℕ → List ℕ → ℕ → ℕ → ℕ → List ℕ → Found → List ℕ → Type 0
+ProductRead w = Read w InSum (λ c. operand (inSum c)) (λ c t. powered (inSum c) t) NoStar
 
-abbrev pub PowerRead : List ℕ → ℕ → ℕ → ℕ → List ℕ → Found → List ℕ → Type 0
-PowerRead = Read Level operand powered Anything
+abbrev pub PowerRead : ℕ → List ℕ → ℕ → ℕ → ℕ → List ℕ → Found → List ℕ → Type 0
+PowerRead w = Read w Level operand powered Anything
 
-abbrev pub AtomRead : List ℕ → ℕ → ℕ → ℕ → List ℕ → Found → List ℕ → Type 0
-AtomRead = Read Level operand atomed Anything
+abbrev pub AtomRead : ℕ → List ℕ → ℕ → ℕ → ℕ → List ℕ → Found → List ℕ → Type 0
+AtomRead w = Read w Level operand atomed Anything
 
 -- The sum inside the brackets begins after the place of the (.
-abbrev pub BracketRead : List ℕ → ℕ → ℕ → ℕ → List ℕ → Found → List ℕ → Type 0
-BracketRead l at = Read Enclosing opened enclosed Anything l (at + 1)
+abbrev pub BracketRead : ℕ → List ℕ → ℕ → ℕ → ℕ → List ℕ → Found → List ℕ → Type 0
+BracketRead w l at = Read w Enclosing opened enclosed Anything l (at + 1)
 
 -- A number at a place: its value v, where the scan stands after it, as an atom and as a literal exponent, and its digits, which are 0 alone or
 -- all that follow.
-pub record NumberRead (l : List ℕ) (at : ℕ) (r : Numeral) : Type 0 where
+pub record NumberRead (w : ℕ) (l : List ℕ) (at : ℕ) (r : Numeral) : Type 0 where
   pub v : ℕ
-  pub value-kept : r .value ≡ kept 64 v
-  pub value-over : r .over ≡ leb (2 ^ 64) v
+  pub value-kept : r .value ≡ kept w v
+  pub value-over : r .over ≡ leb (2 ^ w) v
   pub value-odd : r .odd ≡ v % 2
   pub onward : at < r .at
   pub inside : r .at ≤ length l
@@ -187,10 +187,10 @@ pub record NumberRead (l : List ℕ) (at : ℕ) (r : Numeral) : Type 0 where
   pub all : 49 ≤ getD l at 0 → Digit (getD l (r .at) 0) → ⊥
 
 -- One more digit: whatever value v the number has so far, it has 10 * v + digit then.
-pub record Pushed (number : Numeral) (digit : ℕ) (r : Numeral) : Type 0 where
+pub record Pushed (w : ℕ) (number : Numeral) (digit : ℕ) (r : Numeral) : Type 0 where
   pub onward : r .at ≡ number .at + 1
-  pub value-kept : (v : ℕ) → number .value ≡ kept 64 v → number .over ≡ leb (2 ^ 64) v → r .value ≡ kept 64 (10 * v + digit)
-  pub value-over : (v : ℕ) → number .value ≡ kept 64 v → number .over ≡ leb (2 ^ 64) v → r .over ≡ leb (2 ^ 64) (10 * v + digit)
+  pub value-kept : (v : ℕ) → number .value ≡ kept w v → number .over ≡ leb (2 ^ w) v → r .value ≡ kept w (10 * v + digit)
+  pub value-over : (v : ℕ) → number .value ≡ kept w v → number .over ≡ leb (2 ^ w) v → r .over ≡ leb (2 ^ w) (10 * v + digit)
   pub value-odd : r .odd ≡ digit % 2
 
 -- The minus signs from place `at` on end before place p.

@@ -31,13 +31,17 @@ abbrev pub codeVerdict : Tree → ℕ → Verdict
 codeVerdict t c = cond (ltb c noFault) (refused (c / faultPlaces) (c % faultPlaces)) (accepted t)
 
 -- 4 to 8, or none, of what the scan makes of the text.
-unfoldable pub outcomeVerdict : Outcome → Verdict
-outcomeVerdict (stops p) = refused 4 p
-outcomeVerdict (reads t) = codeVerdict t (code t)
+unfoldable pub outcomeVerdict : ℕ → Outcome → Verdict
+outcomeVerdict w (stops p) = refused 4 p
+outcomeVerdict w (reads t) = codeVerdict t (code w t)
 
 -- 3 to 8, or none, of a text of that length with its first ( that is too deep at place p.
-abbrev pub shortVerdict : ℕ → ℕ → Outcome → Verdict
-shortVerdict size p o = cond (ltb p size) (refused 3 p) (outcomeVerdict o)
+abbrev pub shortVerdict : ℕ → ℕ → ℕ → Outcome → Verdict
+shortVerdict w size p o = cond (ltb p size) (refused 3 p) (outcomeVerdict w o)
 
-unfoldable pub verdict : List ℕ → Verdict
-verdict s = cond (ltb 1024 (length s)) (refused 2 1024) (shortVerdict (length s) (deepPlace 0 0 0 s) (scanned s))
+-- 2 to 8, or none, by words of width w; and by those of 64 bits.
+unfoldable pub verdictFor : ℕ → List ℕ → Verdict
+verdictFor w s = cond (ltb 1024 (length s)) (refused 2 1024) (shortVerdict w (length s) (deepPlace 0 0 0 s) (scanned s))
+
+abbrev pub verdict : List ℕ → Verdict
+verdict s = verdictFor 64 s

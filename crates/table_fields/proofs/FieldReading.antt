@@ -40,7 +40,7 @@ ends-last (digits low high more) zero some h all = omega arith
 ends-last (digits low high more) (suc i) some h all = all low (digit-at more i (omega arith))
 
 -- ---- a field with the number that begins it
-module _ (most : ℕ) {s : List ℕ} {r : Numeral} (read : NumberRead s 0 r) where
+module _ (most : ℕ) {s : List ℕ} {r : Numeral} (read : NumberRead 64 s 0 r) where
   pub more-behind : r .at < length s → notTaken ≡ numberUpTo most s
   more-behind h = not-number most s (λ e. ends-last (tested-number s e) (r .at) (read .onward) h (read .all))
 

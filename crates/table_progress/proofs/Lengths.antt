@@ -11,7 +11,7 @@ use Rattle.formula.specs.Tree.{Tree}
 use Rattle.formula.specs.Refusals.{Accepted}
 use Rattle.formula_scan.specs.Scan.{Outcome, reads, stops, scanned}
 use Rattle.formula_scan.specs.Readers.{noFault, code}
-use Rattle.formula_scan.specs.Verdict.{Verdict, refused, accepted, deepPlace, outcomeVerdict, shortVerdict, verdict}
+use Rattle.formula_scan.specs.Verdict.{Verdict, refused, accepted, deepPlace, outcomeVerdict, shortVerdict, verdictFor, verdict}
 use Rattle.formula_scan.proofs.GrammarScan.{stops-at}
 use Rattle.formula_scan.proofs.Verdicts.{verdict-accepted}
 use Rattle.plan.specs.Plan.{rowCount, cost, refusal}
@@ -76,27 +76,27 @@ data Small : Verdict → Type 0 where
   small-refused : (number place : ℕ) → number ≤ 8 → place < 2048 → Small (refused number place)
   small-accepted : {t : Tree} → Small (accepted t)
 
-outcome-small : (o : Outcome) → ((p : ℕ) → o ≡ stops p → p ≤ 1024) → Small (outcomeVerdict o)
+outcome-small : (o : Outcome) → ((p : ℕ) → o ≡ stops p → p ≤ 1024) → Small (outcomeVerdict 64 o)
 unfolding outcomeVerdict
 outcome-small (stops p) within = small-refused 4 p (omega arith) (omega (arith, within p refl))
-outcome-small (reads t) within = go (ltb (code t) noFault) refl
+outcome-small (reads t) within = go (ltb (code 64 t) noFault) refl
   where
-    go : (b : Bool) → ltb (code t) noFault ≡ b → Small (cond b (refused (code t / 2048) (code t % 2048)) (accepted t))
-    go true q = small-refused (code t / 2048) (code t % 2048) (omega (arith, ltb-true (code t) noFault q)) (omega arith)
+    go : (b : Bool) → ltb (code 64 t) noFault ≡ b → Small (cond b (refused (code 64 t / 2048) (code 64 t % 2048)) (accepted t))
+    go true q = small-refused (code 64 t / 2048) (code 64 t % 2048) (omega (arith, ltb-true (code 64 t) noFault q)) (omega arith)
     go false q = small-accepted
 
-short-small : (size p : ℕ) → size ≤ 1024 → (o : Outcome) → ((q : ℕ) → o ≡ stops q → q ≤ 1024) → Small (shortVerdict size p o)
+short-small : (size p : ℕ) → size ≤ 1024 → (o : Outcome) → ((q : ℕ) → o ≡ stops q → q ≤ 1024) → Small (shortVerdict 64 size p o)
 short-small size p short o within = go (ltb p size) refl
   where
-    go : (b : Bool) → ltb p size ≡ b → Small (cond b (refused 3 p) (outcomeVerdict o))
+    go : (b : Bool) → ltb p size ≡ b → Small (cond b (refused 3 p) (outcomeVerdict 64 o))
     go true q = small-refused 3 p (omega arith) (omega (arith, ltb-true p size q))
     go false q = outcome-small o within
 
 verdict-small : (s : List ℕ) → Small (verdict s)
-unfolding verdict
+unfolding verdictFor
 verdict-small s = go (ltb 1024 (length s)) refl
   where
-    go : (b : Bool) → ltb 1024 (length s) ≡ b → Small (cond b (refused 2 1024) (shortVerdict (length s) (deepPlace 0 0 0 s) (scanned s)))
+    go : (b : Bool) → ltb 1024 (length s) ≡ b → Small (cond b (refused 2 1024) (shortVerdict 64 (length s) (deepPlace 0 0 0 s) (scanned s)))
     go true q = small-refused 2 1024 (omega arith) (omega arith)
     go false q =
         short-small (length s) (deepPlace 0 0 0 s) (ltb-false 1024 (length s) q) (scanned s)

@@ -80,7 +80,7 @@ module _ {M : Type 1} (𝓤 : URA M) (H : Heap 𝓤) (A : Atoms 𝓤) (W : Given
 
   -- what is found of the sum at the place
   abbrev Said : Found → Type 0
-  Said r = Scanned (now (d .text)) (d .place) r
+  Said r = Scanned 64 (now (d .text)) (d .place) r
 
   abbrev Post : Val → SProp 𝓤
   Post = walkOf 𝓤 H A read-sum.ended stayed (read-sum.clauses 𝓤 H A mem run) .post (((κ, tt), (q, tt), tt, (d, tt), (mach ∷ [], tt)), tt)

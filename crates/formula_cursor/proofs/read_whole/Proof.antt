@@ -136,8 +136,8 @@ module _ {M : Type 1} (𝓤 : URA M) (H : Heap 𝓤) (A : Atoms 𝓤) (W : Given
   goes-read : (c : Cursor) (u : Val) → c .place ≤ length (now (c .text)) → ent 𝓤 (⋆ 𝓤 H A (‵ (Held c u) ∷ (‵ (flft κ q) ⊛ ‵ ftrue) ∷ [])) (ReadSum 𝓤 H A mem run .pre (to-read c u))
   goes-read c u within = qed W (‵ (Held c u) ∷ (‵ (flft κ q) ⊛ ‵ ftrue) ∷ []) ∵ says ! within $ nothing ! $ move ! (1 ∷ 0 ∷ []) $ fjoin ! $ move ! (1 ∷ 0 ∷ []) $ frame ! $ done !
 
-  read-said : (c : Cursor) (f : Found) → ent 𝓤 (ensured 𝓤 H A read-sum.ended (read-sum.clauses 𝓤 H A mem run) (κ, tt) (c, tt) tt f) (fact 𝓤 (Scanned (now (c .text)) (c .place) f))
-  read-said c f = exE 𝓤 _ (λ ws. snd∗ 𝓤 (sem 𝓤 H A (lasts read-sum.ended (κ, tt) (c, tt) ws)) (fact 𝓤 (Scanned (now (c .text)) (c .place) f)))
+  read-said : (c : Cursor) (f : Found) → ent 𝓤 (ensured 𝓤 H A read-sum.ended (read-sum.clauses 𝓤 H A mem run) (κ, tt) (c, tt) tt f) (fact 𝓤 (Scanned 64 (now (c .text)) (c .place) f))
+  read-said c f = exE 𝓤 _ (λ ws. snd∗ 𝓤 (sem 𝓤 H A (lasts read-sum.ended (κ, tt) (c, tt) ws)) (fact 𝓤 (Scanned 64 (now (c .text)) (c .place) f)))
 
   -- the call of `past`, at the sum f with the machine value w too
   abbrev to-past : Cursor → Val → Found → Val → Past 𝓤 H A mem run .Ghost
@@ -171,7 +171,7 @@ module _ {M : Type 1} (𝓤 : URA M) (H : Heap 𝓤) (A : Atoms 𝓤) (W : Given
   end-said : (c : Cursor) (f r : Found) → ent 𝓤 (ensured 𝓤 H A at-end.ended (at-end.clauses 𝓤 H A mem run) (κ, tt) (c, (f, tt)) tt r) (fact 𝓤 (Ends c f r))
   end-said c f r = exE 𝓤 _ (λ ws. snd∗ 𝓤 (sem 𝓤 H A (lasts at-end.ended (κ, tt) (c, (f, tt)) ws)) (fact 𝓤 (Ends c f r)))
 
-  exits : (r : Found) (w : Val) → WholeRead (now s) r → ent 𝓤 (⋆ 𝓤 H A (‵ (Told r w) ∷ (‵ (flft κ q) ⊛ ‵ ftrue) ∷ ‵ Own ∷ [])) (Post w)
+  exits : (r : Found) (w : Val) → WholeRead 64 (now s) r → ent 𝓤 (⋆ 𝓤 H A (‵ (Told r w) ∷ (‵ (flft κ q) ⊛ ‵ ftrue) ∷ ‵ Own ∷ [])) (Post w)
   exits r w e =
       qed W (‵ (Told r w) ∷ (‵ (flft κ q) ⊛ ‵ ftrue) ∷ ‵ Own ∷ []) ∵
       suffices ! _ (ends-at 𝓤 H A read-whole.ended stayed (read-whole.clauses 𝓤 H A mem run) W (((κ, tt), (q, tt), tt, (s, tt), (v ∷ [], tt)), tt) w r (tt, tt) (tt, tt)) $ says ! e $
@@ -197,7 +197,7 @@ module _ {M : Type 1} (𝓤 : URA M) (H : Heap 𝓤) (A : Atoms 𝓤) (W : Given
         move ! (0 ∷ 2 ∷ []) $ use2 W (raw (ReadSum 𝓤 H A mem run .pre (to-read c u))) (goes-read c u (inside (c .place) _ (e₁ .1))) $
         calls-at ! fm (ReadSum 𝓤 H A mem run) known-read (to-read c u) (and-then ! (load ! (from ! (stop !)) (look ! 7 refl)) (no-more !)) (λ w.
         use1 W (later (some (λ (f : Found). ((‵ (flft κ q) ⊛ ‵ ftrue) ⊛ ‵ (Told f w)) ⊛ raw (ensured 𝓤 H A read-sum.ended (read-sum.clauses 𝓤 H A mem run) (κ, tt) (c, tt) tt f)))) (id⊢ 𝓤 _) $ await ! tt $ pick ! (λ f.
-        split ! $ move ! (1 ∷ []) $ use1 W (raw (fact 𝓤 (Scanned (now (c .text)) (c .place) f))) (read-said c f) $ heard ! (Scanned (now (c .text)) (c .place) f) (λ e₂. split ! $ move ! (1 ∷ []) $
+        split ! $ move ! (1 ∷ []) $ use1 W (raw (fact 𝓤 (Scanned 64 (now (c .text)) (c .place) f))) (read-said c f) $ heard ! (Scanned 64 (now (c .text)) (c .place) f) (λ e₂. split ! $ move ! (1 ∷ []) $
         -- [what was found; the token; what the cursor owns; what the text owns; room for _6; …]
         peeks ! F.the-row (Is F.the-row) (shows 𝓤 H A F.the-row) f (w ∷ []) (λ is₂.
         land ! (from ! (stop !)) (init ! 10 refl (LL.lawful F.the-type F′.the-laws 𝓤 H A W .typed f _ is₂ .0)) $ drop ! $

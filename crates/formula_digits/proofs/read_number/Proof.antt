@@ -11,7 +11,7 @@ use Rattle.formula_digits.proofs.read_number.Statement.{statement}
 use Rattle.formula_digits.proofs.read_number.Tie as tie
 
 abbrev Inv-loop : tie.InvT-loop
-Inv-loop text at first digit number₀ number = NumberSoFar text at number
+Inv-loop text at first digit number₀ number = NumberSoFar 64 text at number
 
 abbrev μ-loop : tie.MeasureT-loop
 μ-loop text at first digit number₀ number = length text - number .at

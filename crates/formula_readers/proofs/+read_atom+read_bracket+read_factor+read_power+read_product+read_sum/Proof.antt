@@ -380,7 +380,7 @@ read-power-returns-6 : (t : ℕ) → read-power-lts.Need-returns-6 (read-power-c
 read-power-returns-6 t c = power-raise (c .before .before .before .before .before .before .before .before .before .before .before .before .before .before .before .before .before .before .before .before .before .before .before .before .before .before .before .args .text .now) (c .before .before .before .before .before .before .before .before .before .before .before .before .before .before .before .before .before .before .before .before .before .before .before .before .before .before .before .args .at) (c .before .before .before .before .before .before .before .before .before .before .before .before .before .before .before .before .before .before .before .before .before .before .before .before .before .before .before .args .nodes) (c .before .before .before .before .before .before .before .before .before .before .before .before .before .before .before .before .before .before .before .before .before .before .before .before .before .before .before .args .fault) _ (c .before .before .before .before .before .before .before .before .before .before .before .before .before .before .before .before .before .before .before .before .before .before .before .read-atom .result) _ (got (c .before .before .before .before .before .before .before .before .before .before .before .before .before .before .before .before .before .before .before .before .before .before .before .read-atom .ensures) (not-false _ (c .before .before .before .before .before .before .before .before .before .before .before .before .before .before .before .before .before .before .before .if1 .left))) (sym (c .before .before .before .before .before .before .before .before .before .before .before .before .before .before .before .before .before .before .byte-at .ensures) ∙ (c .before .before .before .before .before .before .before .before .before .before .before .before .before .before .before .before .before .if2 .left)) (sym (c .before .before .before .before .before .before .before .before .before .before .before .before .before .before .before .before .byte-at2 .ensures) ∙ (c .before .before .before .before .before .before .before .before .before .before .before .before .before .if4 .left)) _ ((c .before .before .before .before .before .before .before .before .before .before .before .lesser .ensures) ∙ ap (λ g. min (c .before .before .before .before .before .before .before .before .before .before .before .before .before .before .before .before .before .before .before .before .before .before .before .read-atom .result .fault) g) (c .before .before .before .before .before .before .before .before .before .before .before .before .base-fault .ensures)) (c .before .before .before .before .before .before .before .before .before .read-bracket .result) _ (c .before .before .before .before .before .before .before .before .before .read-bracket .ensures) (not-false _ (c .before .before .before .before .before .if5 .left)) _ _ (c .before .before .noted .ensures .0 ∙ ap withNode (c .before .before .before .both .ensures)) (c .before .before .noted .ensures .1 ∙ ap (λ (f : Found). put (c .before .before .before .before .before .before .before .before .before .read-bracket .last .1 .0) (f .nodes) 8 0) (c .before .before .before .both .ensures))
 
 abbrev read-product-Inv-loop : read-product-lts.InvT-loop
-read-product-Inv-loop text tree₀ at nodes fault left₀ joined₀ tree left joined = (ProductSoFar text at nodes fault tree₀ left joined tree) × (length tree ≡ length tree₀)
+read-product-Inv-loop text tree₀ at nodes fault left₀ joined₀ tree left joined = (ProductSoFar 64 text at nodes fault tree₀ left joined tree) × (length tree ≡ length tree₀)
 
 abbrev read-product-μ-loop : read-product-lts.MeasureT-loop
 read-product-μ-loop text tree₀ at nodes fault left₀ joined₀ tree left joined = length text - left .at
@@ -436,7 +436,7 @@ read-product-loop-again : (t : ℕ) → read-product-lts.Need-loop-again (read-p
 read-product-loop-again t c = (product-goes-on (product-joined (c .before .before .before .before .before .before .before .before .before .before .before .before .before .loop .inv .0) (c .before .before .before .before .before .before .before .before .before .before .before .read-factor .ensures) (not-false _ (c .before .before .before .before .before .before .before .if1 .left)) (c .before .before .before .before .before .joined-product .result) _ (c .before .before .before .before .before .joined-product .ensures .0) (c .before .before .before .before .before .joined-product .ensures .1)) (sym (c .before .before .byte-at .ensures) ∙ (c .before .if2 .left)) _ (c .beyond .ensures), (c .before .before .before .before .before .joined-product .kept .0) ∙ (c .before .before .before .before .before .before .before .before .before .before .before .read-factor .kept .1 .0) ∙ (c .before .before .before .before .before .before .before .before .before .before .before .before .before .loop .inv .1))
 
 abbrev read-sum-Inv-loop : read-sum-lts.InvT-loop
-read-sum-Inv-loop text tree₀ at nodes fault left₀ sign₀ tree left sign = (SumSoFar text at nodes fault tree₀ left sign tree) × (length tree ≡ length tree₀)
+read-sum-Inv-loop text tree₀ at nodes fault left₀ sign₀ tree left sign = (SumSoFar 64 text at nodes fault tree₀ left sign tree) × (length tree ≡ length tree₀)
 
 abbrev read-sum-μ-loop : read-sum-lts.MeasureT-loop
 read-sum-μ-loop text tree₀ at nodes fault left₀ sign₀ tree left sign = length text - left .at
