@@ -171,4 +171,4 @@ if-at-end-spec 𝓤 H 𝓜 𝓖 𝓡 =
     entered 𝓤 H (tripleOf 𝓤 H (𝓖 .A) if-at-end.signature (if-at-end.spec 𝓤 H (𝓖 .A) (𝓜 .mem) (𝓡 .run)))
     (tables 𝓤 H 𝓜 𝓡 code.env .C) (tables 𝓤 H 𝓜 𝓡 code.env .Λ) #cursor·if-at-end code.function (code.unfolded 𝓤 H 𝓜 𝓡)
     (if-at-end-meets 𝓤 H (𝓖 .A) (givenOf 𝓤 H 𝓜 𝓖) (𝓜 .mem) (𝓡 .run) (tablesOf 𝓤 H 𝓜 (tables 𝓤 H 𝓜 𝓡 code.env))
-    (cited 𝓤 H (IfEnded 𝓤 H (𝓖 .A) (𝓜 .mem) (𝓡 .run)) 𝓜 𝓡 code.env #cursor·if-ended if-ended-def.routine code.calls-cursor·if-ended (if-ended-thm.met 𝓤 H 𝓜 𝓖 𝓡)))
+    (cited 𝓤 H (IfEnded 𝓤 H (𝓖 .A) (𝓜 .mem) (𝓡 .run)) 𝓜 𝓡 code.env #cursor·if-ended if-ended-def.routine code.calls-formula-cursor·if-ended (if-ended-thm.met 𝓤 H 𝓜 𝓖 𝓡)))

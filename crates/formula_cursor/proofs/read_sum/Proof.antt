@@ -163,4 +163,4 @@ read-sum-spec 𝓤 H 𝓜 𝓖 𝓡 =
     entered 𝓤 H (tripleOf 𝓤 H (𝓖 .A) read-sum.signature (read-sum.spec 𝓤 H (𝓖 .A) (𝓜 .mem) (𝓡 .run)))
     (tables 𝓤 H 𝓜 𝓡 code.env .C) (tables 𝓤 H 𝓜 𝓡 code.env .Λ) #cursor·read-sum code.function (code.unfolded 𝓤 H 𝓜 𝓡)
     (read-sum-meets 𝓤 H (𝓖 .A) (givenOf 𝓤 H 𝓜 𝓖) (𝓜 .mem) (𝓡 .run) (tablesOf 𝓤 H 𝓜 (tables 𝓤 H 𝓜 𝓡 code.env))
-    (cited 𝓤 H (SumFrom 𝓤 H (𝓖 .A) (𝓜 .mem) (𝓡 .run)) 𝓜 𝓡 code.env #cursor·sum-from sum-from-def.routine code.calls-cursor·sum-from (sum-from-thm.met 𝓤 H 𝓜 𝓖 𝓡)))
+    (cited 𝓤 H (SumFrom 𝓤 H (𝓖 .A) (𝓜 .mem) (𝓡 .run)) 𝓜 𝓡 code.env #cursor·sum-from sum-from-def.routine code.calls-formula-cursor·sum-from (sum-from-thm.met 𝓤 H 𝓜 𝓖 𝓡)))
