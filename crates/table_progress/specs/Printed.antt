@@ -14,6 +14,7 @@ use Rattle.table.specs.Lines.{noLine, jobLine, pointLines}
 use Rattle.table_fields.specs.Writing.{Wrote}
 use Rattle.table.specs.Parts.{picked}
 use Rattle.table.specs.Judged.{judgedJob}
+use Rattle.table.specs.Lines.{noLine, jobLine, pointLines}
 use Rattle.table.specs.declared.JobLine.{JobLine}
 
 -- What job n prints for a plan: its first points, as filling writes them.
