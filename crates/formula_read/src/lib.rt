@@ -2,7 +2,9 @@
 // The bracket count is in `depth`, the readers of the grammar in `formula_readers`, a whole text in `formula_cursor`; what a formula folds to lives above.
 mod depth;
 
+use formula::MOST_NODES;
 use formula::ReadAnswer;
+use formula::TREE_WORDS;
 use formula_nodes::faults;
 ghost use mathlib.Core.Path.{_≡_};
 ghost use mathlib.Core.Bool.{cond};
@@ -16,10 +18,6 @@ ghost use Rattle.formula.specs.Refusals.{Accepted, Reading};
 ghost use Rattle.formula_scan.specs.Readers.{faultCode, noFault, Judged};
 
 const LONGEST_TEXT: usize = 1024;
-
-const MOST_NODES: usize = 128;
-
-const TREE_WORDS: usize = 257;
 
 // Refusal 7 for more nodes than a tree holds.
 fn nodes_fault(nodes: usize) -> u64
@@ -73,8 +71,8 @@ fn write(text: &[u8], tree: &mut [u64])
     requires { ⌜ treeLength ≤ length (now tree) ⌝ }
     ensures { λ _. ⌜ ((t : Tree) → Accepted 64 (now (text .entry)) t → now (tree .exit) ≡ treeWords t ++ drop treeLength (now (tree .entry))) ⌝ }
 {
-    word::clear(&mut tree[0..257]);
-    let sum = formula_readers::read_sum(text, &mut tree[1..257], 0, 0, faults::NO_FAULT);
+    word::clear(&mut tree[0..TREE_WORDS]);
+    let sum = formula_readers::read_sum(text, &mut tree[1..TREE_WORDS], 0, 0, faults::NO_FAULT);
     tree[0] = sum.nodes as u64;
 }
 

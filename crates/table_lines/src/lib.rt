@@ -1,5 +1,6 @@
 // What a whole line does: the header, the defaults line, a job.
 // How lines are found in the input is for `steps`.
+use plan::PLAN_WORDS;
 use table_fields::fields;
 use table_fields::line_checks;
 use table_jobs::job_lines;
@@ -16,8 +17,6 @@ ghost use Rattle.table_progress.specs.Printed.{jobPrints};
 ghost use Rattle.table_progress.specs.Run.{theHeader, theDefaults, aJob, linePrints, endPrints};
 ghost use Rattle.table_progress.specs.Steps.{ended, awaitedBy, awaits, progressBy, progressAfter, defaultsAfter, planAfterLine, tableAfterLine};
 ghost use Rattle.table_progress.specs.declared.Awaited.the-variants.{Header, Defaults};
-
-const PLAN_WORDS: usize = 2561;
 
 const MOST_POINTS: usize = 4096;
 

@@ -1,5 +1,6 @@
 // A run of the table printer as steps over lent buffers: each takes the input up to a line feed and writes what the line prints.
 // What a whole line does is in `lines`; reading and writing files is the program's.
+use plan::PLAN_WORDS;
 use table_fields::fields;
 use table_progress::Awaited;
 use table_progress::LineDone;
@@ -17,8 +18,6 @@ ghost use Rattle.table_progress.specs.Steps.{started, haveRoom, isReachable, mo
 const HELD_AT_MOST: usize = 4097;
 
 const LONGEST_LINE: usize = 4096;
-
-const PLAN_WORDS: usize = 2561;
 
 const MOST_POINTS: usize = 4096;
 
