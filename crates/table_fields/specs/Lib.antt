@@ -1,4 +1,4 @@
--- What the contracts of `fields` cite: lines and fields of bytes, and what is judged of a header, a defaults line and a job line.
--- What the contracts of `numerals` cite: the digits of a number, the number of a field, and bytes written into a lent buffer.
+-- What the contracts of `numerals` cite beside the definitions of `table`: what the reader of a field's number answers, and bytes written into a
+-- lent buffer.
 pub mod Reading
 pub mod Writing

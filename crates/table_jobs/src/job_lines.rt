@@ -1,5 +1,5 @@
 // The lines of a job in a lent buffer: `no`, `job` and the points.
-// Which of them a job prints is for `table_jobs` and `lines`; single numbers and bytes are written in `table_fields::numerals`.
+// Which of them a job prints is for `table_jobs` and `table_lines`; single numbers and bytes are written in `table_fields::numerals`.
 use table_fields::numerals;
 ghost use mathlib.Core.List.{_∷_};
 ghost use Prim.Native.Nat.{_+_, _*_, _≤_};

@@ -1,5 +1,5 @@
 // A job printed into a lent buffer: the formula compiled, its points filled, and its lines written.
-// Which line is a job, and which of its fields are whose, is decided in `lines` and `fields`.
+// Which line is a job, and which of its fields are whose, is decided in `table_lines` and `table_fields`.
 pub mod job_lines;
 
 use table::JobLine;

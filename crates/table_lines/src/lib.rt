@@ -1,5 +1,5 @@
 // What a whole line does: the header, the defaults line, a job.
-// How lines are found in the input is for `steps`.
+// How lines are found in the input is for `table_steps`.
 use plan::PLAN_WORDS;
 use table_fields::fields;
 use table_fields::line_checks;

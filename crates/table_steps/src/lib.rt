@@ -1,5 +1,5 @@
 // A run of the table printer as steps over lent buffers: each takes the input up to a line feed and writes what the line prints.
-// What a whole line does is in `lines`; reading and writing files is the program's.
+// What a whole line does is in `table_lines`; reading and writing files is the program's.
 use plan::PLAN_WORDS;
 use table_fields::fields;
 use table_progress::Awaited;
