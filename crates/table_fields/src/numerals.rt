@@ -1,4 +1,4 @@
-// Decimal numbers as bytes: written into a lent buffer, and read from a field of a line.
+// Decimal numbers as bytes: written into a lent buffer, and read from a field of a line, whose digits `formula_digits` reads.
 // Which numbers a line prints or holds is decided in the crates above.
 use formula_digits::byte_at;
 use formula_digits::is_digit;
