@@ -15,6 +15,8 @@ use lib.Signed.{_<ℤ_, _≤ℤ_}
 use borrow.Author.Tests.{lt-ltb, le-ltb}
 use Rattle.plan.specs.Measures.{planLength}
 use Rattle.word.specs.Word as Word
+use Rattle.word.specs.Signed as Signed
+use Rattle.word.specs.Signed.{half}
 use Rattle.word.proofs.Unique as WordPromises
 use Rattle.word.proofs.Unique.{both-are}
 use Rattle.formula.specs.declared.ReadAnswer.{ReadAnswer}
@@ -54,7 +56,7 @@ use Rattle.fold.proofs.Promise.{compiling-unique}
 use Rattle.probe.specs.declared.ProbeAnswer.{ProbeAnswer}
 use Rattle.probe.specs.declared.Verdict.the-variants.{NoVerdict}
 use Rattle.probe.specs.Probe as ProbeSpec
-use Rattle.probe.specs.Probe.{half, offset, verdict, verdictWord, ahead, behind, within, probeAnswer}
+use Rattle.probe.specs.Probe.{offset, verdict, verdictWord, ahead, behind, within, probeAnswer}
 use Rattle.probe.proofs.Laws as Probe
 use Rattle.table.specs.Parts.{lineFeed}
 use Rattle.table.specs.Run.{RunPrints}
@@ -311,7 +313,7 @@ module _ (reading expected tolerance : ℕ) (fits : tolerance < 2 ^ 63) where
   pub offset-right :
       let probed = probeAnswer reading expected tolerance in
       (negℤ (pos (2 ^ 63)) ≤ℤ probed .offset) × (probed .offset ≤ℤ pos (2 ^ 63 - 1))
-      × (Word.sum 64 (ProbeSpec.wordOf 64 (probed .offset)) expected ≡ Word.word 64 reading)
+      × (Word.sum 64 (Signed.wordOf 64 (probed .offset)) expected ≡ Word.word 64 reading)
   offset-right =
       let (least, greatest) = Probe.offset-range 64 reading expected (omega arith) in
       rw probe-accepts (least, greatest, Probe.offset-word 64 reading expected)

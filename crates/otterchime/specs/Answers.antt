@@ -13,7 +13,7 @@ use Rattle.fold.specs.Compiling.{Compiling}
 use Rattle.probe.specs.declared.Verdict.{Verdict}
 use Rattle.probe.specs.declared.Verdict.the-variants.{NoVerdict, Within, Ahead, Behind}
 use Rattle.probe.specs.declared.ProbeAnswer.{ProbeAnswer}
-use Rattle.probe.specs.Probe.{wordOf}
+use Rattle.word.specs.Signed.{wordOf}
 
 -- Number and place.
 abbrev pub compileWords : CompileAnswer → List ℕ

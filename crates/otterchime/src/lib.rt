@@ -6,7 +6,8 @@ mod chains;
 use probe::Verdict;
 ghost use mathlib.Core.Path.{_≡_};
 ghost use Rattle.plan.specs.Filling.{fill, costAnswer, soundAnswer};
-ghost use Rattle.probe.specs.Probe.{wordOf, probeAnswer};
+ghost use Rattle.word.specs.Signed.{wordOf};
+ghost use Rattle.probe.specs.Probe.{probeAnswer};
 ghost use Rattle.otterchime.specs.Answers.{CompiledInto, fillWords, costWords, soundWords, probeWords, verdictNumber};
 
 // Compiles a formula's text on a grid into a lent plan of 2,561 words. A refusal alters no word of the plan; words past its own stay.

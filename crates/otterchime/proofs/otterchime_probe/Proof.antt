@@ -5,7 +5,7 @@ use Prim.Native.Nat.{ℕ}
 use borrow.Author.Needs.{needs}
 use mir.Syntax.{w64}
 use mir.ValLaws.{toZ-ofZ}
-use Rattle.probe.specs.Probe.{wordOf}
+use Rattle.word.specs.Signed.{wordOf}
 use Rattle.otterchime.specs.Answers.{probeWords}
 use Rattle.otterchime.proofs.otterchime_probe.Statement.{statement}
 use Rattle.otterchime.proofs.otterchime_probe.Tie as tie
