@@ -5,4 +5,5 @@ pub mod OddBase
 pub mod HalfWords
 pub mod Squaring
 pub mod SignedWords
+pub mod WholeNumbers
 pub mod Unique
