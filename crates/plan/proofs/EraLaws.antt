@@ -10,7 +10,10 @@ use borrow.Author.Tests.{eqb-true, eqb-false, eq-eqb, ne-eqb, ltb-true, ltb-fals
 use lib.Dec.{eqb, ltb}
 use lib.IntN.{ℤ, pos, negsuc, natAbs, subℕ, _+ℤ_, _*ℤ_, +ℤ-idl, +ℤ-idr, +ℤ-assoc, +ℤ-comm}
 use lib.ListN.{length, drop}
-use lib.Signed.{leZ, ltZ}
+use lib.Signed.{leZ, ltZ, mag}
+use mir.Syntax.{w64}
+use mir.Val.{SFits, toZ, ofZ}
+use mir.ValLaws.{toZ-ofZ}
 use Rattle.word.proofs.WholeNumbers.{last-two, times-sum}
 use Rattle.word.proofs.Unique.{both-are}
 use Rattle.word.specs.Signed.{signed}
@@ -118,6 +121,25 @@ abs-eras w (suc n) p =
       abs-eras w n (shiftedPlan w p),
     )
 
+mag-abs : (z : ℤ) → mag z ≤ natAbs z
+mag-abs (pos n) = omega arith
+mag-abs (negsuc n) = omega arith
+
+pub eras-fit : (w n : ℕ) (p : List ℕ) → n < 2 ^ 63 → SFits w64 (erasOver w n p)
+eras-fit w n p few = record { sfits = omega (arith, mag-abs (erasOver w n p), abs-eras w n p) }
+
+-- What the code adds up, point after point: `toZ w64` is the number that bits are read as. It fits while there are fewer than 2^63 points.
+module _ (n : ℕ) (p : List ℕ) (bits : ℕ) (z : ℤ) (few : n + 1 < 2 ^ 63) (so-far : toZ w64 bits ≡ erasOver 64 n p) (fits : SFits w64 z)
+    (here : z ≡ crossing 64 (rootChain (planAfter 64 n p))) where
+  next : toZ w64 bits +ℤ toZ w64 (ofZ w64 z) ≡ erasOver 64 (n + 1) p
+  next = ap₂ _+ℤ_ so-far (toZ-ofZ w64 z fits ∙ here) ∙ sym (eras-next 64 n p)
+
+  pub counts-on : SFits w64 (toZ w64 bits +ℤ toZ w64 (ofZ w64 z))
+  counts-on = rw next (eras-fit 64 (n + 1) p few)
+
+  pub counted : toZ w64 (ofZ w64 (toZ w64 bits +ℤ toZ w64 (ofZ w64 z))) ≡ erasOver 64 (n + 1) p
+  counted = toZ-ofZ w64 (toZ w64 bits +ℤ toZ w64 (ofZ w64 z)) counts-on ∙ next
+
 -- A root that is no sum chain never crosses.
 eras-none : (w n : ℕ) (p : List ℕ) → sound p ≡ true → (kind (rootRow p) ≡ 1 → ⊥) → erasOver w n p ≡ pos 0
 unfolding erasOver
@@ -151,6 +173,10 @@ first-refusals p h = ap (λ b. cond b (cond (constantOrSum (rootRow p)) 0 16) (r
 pub last-refusal : (p : List ℕ) → refusal p ≡ 0 → erasRefusal p ≡ cond (constantOrSum (rootRow p)) 0 16
 unfolding erasRefusal
 last-refusal p e = ap (λ b. cond b (cond (constantOrSum (rootRow p)) 0 16) (refusal p)) (eq-eqb (refusal p) 0 e)
+
+-- By the kind that the code reads of the root.
+pub last-by-kind : (p : List ℕ) {k : ℕ} → refusal p ≡ 0 → k ≡ kind (rootRow p) → erasRefusal p ≡ cond (eqb k 0 || eqb k 1) 0 16
+last-by-kind p e known = last-refusal p e ∙ ap (λ k. cond (eqb k 0 || eqb k 1) 0 16) (sym known)
 
 pub eras-accepted : (p : List ℕ) → erasRefusal p ≡ 0 → (refusal p ≡ 0) × (constantOrSum (rootRow p) ≡ true)
 unfolding erasRefusal

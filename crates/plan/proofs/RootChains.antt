@@ -23,7 +23,7 @@ use Rattle.plan.specs.Plan.{rowCount, row, sound}
 use Rattle.plan.specs.Points.{chainOf, shiftedRow, shiftedPlan}
 use Rattle.plan.specs.Eras.{rootRow, asChain, rootChain, constantOrSum, AreWords}
 use Rattle.plan.proofs.RowLaws.{row-at}
-use Rattle.plan.proofs.SoundLaws.{sound-count}
+use Rattle.plan.proofs.SoundLaws.{sound-count, sound-keeps, kept-some}
 use Rattle.plan.proofs.Keeping.{kind-shifted, chain-shifted, shifted-other, count-shifted, row-shifted}
 
 -- ---- the root after a shift
@@ -78,6 +78,19 @@ crosses-by-words w x e some fits =
 
 pub crosses-not : (w : ℕ) (x : Row) → (kind x ≡ 1 → ⊥) → crossing w (asChain x) ≡ pos 0
 crosses-not w x other = ap (λ b. crossing w (cond b (chainOf x) (firstElement x ∷ []))) (ne-eqb (kind x) 1 other)
+
+-- The words that the code reads of a sound plan's root: its kind, and the first two elements.
+pub root-crosses : (w : ℕ) (p : List ℕ) → sound p ≡ true → {k a b : ℕ} → k ≡ kind (rootRow p) → k ≡ 1 → a ≡ firstElement (rootRow p) → a < 2 ^ w
+    → b ≡ getD (rootRow p) (elementsStart + 1) 0 → crossedBy w a (signed w b) ≡ crossing w (rootChain p)
+root-crosses w p e {a = a} known sum first fits second =
+    ap₂ (λ x y. crossedBy w x (signed w y)) first second
+    ∙ crosses-by-words w (rootRow p) (sym known ∙ sum) some (rw (sym first) fits)
+  where
+    within : rowCount p - 1 < rowCount p
+    within = omega (arith, sound-count p e)
+
+    some : 1 ≤ wordA (rootRow p)
+    some = kept-some (rowCount p - 1) (rootRow p) (sound-keeps p (rowCount p - 1) e within) (ap (λ k. isChain k) (sym known ∙ sum))
 
 -- ---- the root of a plan of words has words
 module _ (m : ℕ) (some : 0 < m) where
