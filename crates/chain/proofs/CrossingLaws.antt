@@ -1,18 +1,20 @@
 -- Laws of crossings, over the width w: which way each pair of words crosses, what an array's first two words say of a chain's crossing, and that a step in whole
 -- numbers is the shift and 2^w times the crossing.
 use mathlib.Core.Path.{_≡_, refl, sym, ap, ap₂, _∙_}
-use mathlib.Core.Bool.{Bool, true, false}
+use mathlib.Core.Bool.{Bool, true, false, cond}
 use mathlib.Core.List.{List, [], _∷_}
 use Prim.Native.Nat.{ℕ, suc, _+_, _-_, _*_, _%_, _^_, _≤_, _<_}
 use native.Mathlib.Nat.{mul-one, mod-eq-of-lt, mod-eq-sub-mod}
 use native.Mathlib.Omega.{arith}
 use borrow.Author.Tests.{ltb-true, ltb-false, lt-ltb, le-ltb, le-leb, lt-leb}
-use lib.Dec.{ltb}
+use lib.Dec.{T, ltb, le→leb}
 use lib.IntN.{ℤ, pos, negsuc, _+ℤ_, _-ℤ_, _*ℤ_}
 use lib.ListN.{length, getD, take, length-map}
 use lib.Pow.{pow-pos}
+use lib.Signed.{leZ, ltZ, _≤ℤ_, _<ℤ_, leZ-yes, ltZ-yes, clashℤ}
 use Rattle.word.specs.Signed.{half, signed}
 use Rattle.word.proofs.SignedWords.{below-minus, signed-low, signed-high}
+use Rattle.word.proofs.WholeNumbers.{passed, failed}
 use Rattle.chain.specs.Chain.{value, rest, words, trimmed, row, shift}
 use Rattle.chain.specs.SumChain.{sumShift}
 use Rattle.chain.specs.Answer.{given, shiftAnswer}
@@ -21,6 +23,11 @@ use Rattle.chain.proofs.Trimming.{row-trimmed, length-row}
 use Rattle.chain.proofs.Rows.{row-whole}
 use Rattle.chain.proofs.Shifting.{length-shift}
 use Rattle.chain.proofs.Calls.{shift-trims}
+
+-- A number that is 2^w or more is not below 0.
+not-below : (n : ℕ) (z : ℤ) → T (leZ (pos n) z) → pos 0 ≤ℤ z
+not-below n (pos m) over = record { le = le→leb 0 m (omega arith) }
+not-below n (negsuc m) over = absurd over
 
 -- x - n, for x below n.
 minus-one-era : (n x : ℕ) → x < n → pos x +ℤ pos n *ℤ negsuc 0 ≡ negsuc (n - suc x)
@@ -81,6 +88,35 @@ module _ (w a b : ℕ) (a-fits : a < 2 ^ w) (b-fits : b < 2 ^ w) where
           let high = ltb-false b (half w) h in
           let over = ltb-false (a + b) (2 ^ w) s in
           rw (stays-high high over, sum-over high over, reaches over) (ap pos (omega arith))
+
+-- ---- the sentence's three cases, of any first element and signed step
+module _ (w a : ℕ) (d : ℤ) where
+  pub told-up : pos (2 ^ w) ≤ℤ (pos a +ℤ d) → crossedBy w a d ≡ pos 1
+  unfolding crossedBy
+  told-up over = rw (passed (leZ (pos (2 ^ w)) (pos a +ℤ d)) (over .le))
+
+  pub told-down : (pos a +ℤ d) <ℤ pos 0 → crossedBy w a d ≡ negsuc 0
+  unfolding crossedBy
+  told-down below =
+      rw (
+        failed (leZ (pos (2 ^ w)) (pos a +ℤ d)) (λ over. clashℤ below (not-below (2 ^ w) (pos a +ℤ d) over)),
+        passed (ltZ (pos a +ℤ d) (pos 0)) (below .lt),
+      )
+
+  pub told-neither : pos 0 ≤ℤ (pos a +ℤ d) → (pos a +ℤ d) <ℤ pos (2 ^ w) → crossedBy w a d ≡ pos 0
+  unfolding crossedBy
+  told-neither low high =
+      rw (
+        failed (leZ (pos (2 ^ w)) (pos a +ℤ d)) (λ over. clashℤ high (leZ-yes over)),
+        failed (ltZ (pos a +ℤ d) (pos 0)) (λ below. clashℤ (ltZ-yes below) low),
+      )
+
+pub told-constant : (w : ℕ) (f : List ℕ) (k : ℕ) {a : ℕ} → given f k ≡ a ∷ [] → shiftAnswer w f k .crossing ≡ pos 0
+told-constant w f k trims = go (ltb 16 k)
+  where
+    go : (b : Bool) → cond b (pos 0) (crossing w (given f k)) ≡ pos 0
+    go true = refl
+    go false = ap (crossing w) trims
 
 -- ---- chains: a constant is a chain with the step 0
 stays : (w a : ℕ) → a < 2 ^ w → crossedBy w a (signed w 0) ≡ pos 0

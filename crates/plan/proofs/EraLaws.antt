@@ -2,15 +2,16 @@
 -- after the other. What the root is as a chain is in RootChains.antt.
 use mathlib.Core.Path.{_≡_, refl, sym, ap, ap₂, subst, _∙_}
 use mathlib.Core.Bool.{Bool, true, false, cond, _||_, false≢true}
+use mathlib.Core.Logic.{_⊎_, inl, inr}
 use mathlib.Core.List.{List, [], _∷_}
 use Prim.Native.Nat.{ℕ, zero, suc, _+_, _-_, _*_, _/_, _^_, _≤_, _<_, min}
 use native.Mathlib.Nat.{zero-add, suc-add, suc-ne-zero, le-trans, mul-le-mul-right}
 use native.Mathlib.Omega.{arith}
 use borrow.Author.Tests.{eqb-true, eqb-false, eq-eqb, ne-eqb, ltb-true, ltb-false}
-use lib.Dec.{eqb, ltb}
-use lib.IntN.{ℤ, pos, negsuc, natAbs, subℕ, _+ℤ_, _*ℤ_, +ℤ-idl, +ℤ-idr, +ℤ-assoc, +ℤ-comm}
+use lib.Dec.{eqb, ltb, le→leb}
+use lib.IntN.{ℤ, pos, negsuc, natAbs, subℕ, negℤ, _+ℤ_, _*ℤ_, +ℤ-idl, +ℤ-idr, +ℤ-assoc, +ℤ-comm}
 use lib.ListN.{length, drop}
-use lib.Signed.{leZ, ltZ, mag}
+use lib.Signed.{leZ, ltZ, mag, _≤ℤ_}
 use mir.Syntax.{w64}
 use mir.Val.{SFits, toZ, ofZ}
 use mir.ValLaws.{toZ-ofZ}
@@ -204,6 +205,28 @@ refused-alters-nothing w p table budget h =
     ap (λ b. cond b (withSum (filled w (pointsFor p (length table) budget) p table) (erasOver w (pointsFor p (length table) budget) p)) (withSum (fillRefused (erasRefusal p) p table) (pos 0)))
     (ne-eqb (erasRefusal p) 0 h)
 
+pub number-is : (w : ℕ) (p table : List ℕ) (budget : ℕ) → fillEras w p table budget .answer .number ≡ erasRefusal p
+unfolding fillEras
+number-is w p table budget = go (eqb (erasRefusal p) 0) refl
+  where
+    n : ℕ
+    n = pointsFor p (length table) budget
+
+    go : (b : Bool) → eqb (erasRefusal p) 0 ≡ b
+        → cond b (withSum (filled w n p table) (erasOver w n p)) (withSum (fillRefused (erasRefusal p) p table) (pos 0)) .answer .number ≡ erasRefusal p
+    go true e = sym (eqb-true (erasRefusal p) 0 e)
+    go false e = refl
+
+-- A plan that no fill refuses is refused 16 or not at all.
+pub sound-number : (w : ℕ) (p table : List ℕ) (budget : ℕ) → refusal p ≡ 0
+    → (fillEras w p table budget .answer .number ≡ 0) ⊎ (fillEras w p table budget .answer .number ≡ 16)
+sound-number w p table budget e = go (constantOrSum (rootRow p)) refl
+  where
+    go : (b : Bool) → constantOrSum (rootRow p) ≡ b
+        → (fillEras w p table budget .answer .number ≡ 0) ⊎ (fillEras w p table budget .answer .number ≡ 16)
+    go true told = inl (number-is w p table budget ∙ last-refusal p e ∙ ap (λ b. cond b 0 16) told)
+    go false other = inr (number-is w p table budget ∙ last-refusal p e ∙ ap (λ b. cond b 0 16) other)
+
 -- What the code of a refused call answers and leaves, and that of an accepted one: what a fill does, and the sum.
 pub eras-refused : (p table : List ℕ) (budget : ℕ) {n : ℕ} → n ≡ erasRefusal p → (n ≡ 0 → ⊥)
     → (record { number = n; place = 0; points = 0; spent = 0; sum = pos 0 } ≡ fillEras 64 p table budget .answer)
@@ -243,6 +266,34 @@ sum-range w p room budget e few = go (eqb (kind (rootRow p)) 1) refl
           few,
         )
     go false k = rw (eras-none w (pointsFor p room budget) p e (eqb-false (kind (rootRow p)) 1 k)) (omega arith)
+
+-- ---- one accepted call, by its answer
+module _ (p table : List ℕ) (budget : ℕ) (nought : fillEras 64 p table budget .answer .number ≡ 0) where
+  good : erasRefusal p ≡ 0
+  good = sym (number-is 64 p table budget) ∙ nought
+
+  done : fillEras 64 p table budget ≡ withSum (filled 64 (pointsFor p (length table) budget) p table) (erasOver 64 (pointsFor p (length table) budget) p)
+  done =
+      accepted-fills 64 p table budget good
+      ∙ ap (λ r. withSum r (erasOver 64 (r .answer .points) p)) (fill-accepted 64 p table budget (eras-accepted p good .0))
+
+  pub exact-call : AreWords 64 p
+      → position 64 (fillEras 64 p table budget .answer .points) p
+      ≡ pos (firstElement (rootRow (fillEras 64 p table budget .plan))) +ℤ pos (2 ^ 64) *ℤ (fillEras 64 p table budget .answer .sum)
+  exact-call words =
+      rw done
+      (exact-position 64 (pointsFor p (length table) budget) p words (accepted p (eras-accepted p good .0) .1) (eras-accepted p good .1))
+
+  pub sum-fits : budget < 2 ^ 64
+      → (negℤ (pos (2 ^ 63)) ≤ℤ fillEras 64 p table budget .answer .sum) × (fillEras 64 p table budget .answer .sum ≤ℤ pos (2 ^ 63 - 1))
+  sum-fits few =
+      rw done
+      (range (erasOver 64 (pointsFor p (length table) budget) p)
+      (sum-range 64 p (length table) budget (accepted p (eras-accepted p good .0) .1) few))
+    where
+      range : (z : ℤ) → natAbs z < 2 ^ 63 → (negℤ (pos (2 ^ 63)) ≤ℤ z) × (z ≤ℤ pos (2 ^ 63 - 1))
+      range (pos n) h = (record { le = tt }, record { le = le→leb n (2 ^ 63 - 1) (omega arith) })
+      range (negsuc n) h = (record { le = le→leb n (2 ^ 63 - 1) (omega arith) }, record { le = tt })
 
 -- ---- calls one after the other: their sums add up to that of all their points
 told-after : (w n : ℕ) (p : List ℕ) → sound p ≡ true → constantOrSum (rootRow (planAfter w n p)) ≡ constantOrSum (rootRow p)

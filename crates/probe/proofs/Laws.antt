@@ -6,13 +6,14 @@ use Prim.Native.Nat.{ℕ, zero, suc, _+_, _-_, _%_, _^_, _<_}
 use native.Mathlib.Nat.{not-suc-le-zero}
 use native.Mathlib.Omega.{arith}
 use borrow.Author.Tests.{lt-ltb}
-use lib.Dec.{T, ltb, ltb→lt}
+use lib.Dec.{ltb, ltb→lt}
 use lib.IntN.{ℤ, pos, negsuc, negℤ}
 use lib.Signed.{ltZ, _<ℤ_, _≤ℤ_, clashℤ, ltZ-yes}
 use Rattle.word.specs.Word.{word, sum, difference}
 use Rattle.word.proofs.Ring.{word-fits, difference-sum}
 use Rattle.word.specs.Signed.{half, wordOf}
 use Rattle.word.proofs.SignedWords.{signed-range, signed-word}
+use Rattle.word.proofs.WholeNumbers.{passed, failed}
 use Rattle.word.proofs.Unique.{both-are}
 use Rattle.probe.specs.declared.Verdict.the-variants.{NoVerdict, Within, Ahead, Behind}
 use Rattle.probe.specs.declared.ProbeAnswer.{ProbeAnswer}
@@ -40,14 +41,6 @@ offset-word w reading expected =
     (difference-sum w reading expected)
 
 -- ---- the verdict
-passed : (b : Bool) → T b → b ≡ true
-passed true t = refl
-passed false t = absurd t
-
-failed : (b : Bool) → (T b → ⊥) → b ≡ false
-failed true f = absurd (f tt)
-failed false f = refl
-
 -- The enum's case and the word of 01 agree.
 pub verdict-word : (z : ℤ) (t : ℕ) → verdictWord (verdict z t) ≡ judgement z t
 verdict-word z t = called (ltZ (pos t) z) (ltZ z (negℤ (pos t)))

@@ -1,7 +1,17 @@
--- Laws of the library's ℤ that it does not have itself: sums in another order, and a product with a sum. Nothing of words is here.
-use mathlib.Core.Path.{_≡_, sym, ap, ap₂, _∙_}
+-- Laws that the library does not have itself: a test that passed or failed, sums in ℤ in another order, and a product with a sum. Nothing of words is here.
+use mathlib.Core.Path.{_≡_, refl, sym, ap, ap₂, _∙_}
+use mathlib.Core.Bool.{Bool, true, false}
 use Prim.Native.Nat.{zero, suc}
+use lib.Dec.{T}
 use lib.IntN.{ℤ, pos, negsuc, sucℤ, predℤ, negℤ, _+ℤ_, _-ℤ_, _*ℤ_, +ℤ-idl, +ℤ-assoc, +ℤ-comm, sucℤ-+ℤ, predℤ-+ℤ, zero-*ℤ, sucℤ-*ℤ, predℤ-*ℤ, *ℤ-comm}
+
+pub passed : (b : Bool) → T b → b ≡ true
+passed true t = refl
+passed false t = absurd t
+
+pub failed : (b : Bool) → (T b → ⊥) → b ≡ false
+failed true f = absurd (f tt)
+failed false f = refl
 
 pub last-two : (a b c : ℤ) → (a +ℤ b) +ℤ c ≡ (a +ℤ c) +ℤ b
 last-two a b c = +ℤ-assoc a b c ∙ ap (λ z. a +ℤ z) (+ℤ-comm b c) ∙ sym (+ℤ-assoc a c b)
