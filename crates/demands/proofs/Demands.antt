@@ -478,18 +478,14 @@ module _ {s : List ℕ} {start step : ℕ} {lent : List ℕ} {r : CompileAnswer}
       → getD (fillEras 64 (planLeft 64 q earlier) table budget .table) j 0 ≡ directValue 64 start step t (pointsOf 64 q earlier + j)
   eras-word j = go eras-compiled
     where
-      there : List ℕ
-      there = planLeft 64 q earlier
-
-      go : (fillEras 64 there table budget .answer .number ≡ 0) ⊎ (fillEras 64 there table budget .answer .number ≡ 16)
-          → j < fillEras 64 there table budget .answer .points
-          → getD (fillEras 64 there table budget .table) j 0 ≡ directValue 64 start step t (pointsOf 64 q earlier + j)
-      unfolding there
+      go : (fillEras 64 (planLeft 64 q earlier) table budget .answer .number ≡ 0) ⊎ (fillEras 64 (planLeft 64 q earlier) table budget .answer .number ≡ 16)
+          → j < fillEras 64 (planLeft 64 q earlier) table budget .answer .points
+          → getD (fillEras 64 (planLeft 64 q earlier) table budget .table) j 0 ≡ directValue 64 start step t (pointsOf 64 q earlier + j)
       go (inl good) h =
-          let (points, _, same, _) = eras-as-fill there table budget good in
+          let (points, _, same, _) = eras-as-fill (planLeft 64 q earlier) table budget good in
           ap (λ l. getD l j 0) same ∙ filled-word call nought means earlier table budget j (omega (arith, points))
       go (inr over) h =
-          let (_, _, none, _, _) = refused-eras-keeps there table budget (λ z. omega (arith, z, over)) in
+          let (_, _, none, _, _) = refused-eras-keeps (planLeft 64 q earlier) table budget (λ z. omega (arith, z, over)) in
           omega (arith, none)
 
 -- ======== "any two conforming answers are proved equal", with all that the call leaves in what it was lent
