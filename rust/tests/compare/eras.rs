@@ -86,6 +86,20 @@ fn the_drill() {
     }
 }
 
+/// The numbers of examples/README.md.
+#[test]
+fn the_example() {
+    let compiled = || Plan::compile(b"x", 18446744065119617024, 4294967296).expect("accepted");
+    let mut plan = compiled();
+    let mut table = [0; 4];
+    let filled = plan.fill_eras(&mut table, u64::MAX).expect("a sum chain");
+    assert_eq!((table, filled.sum), ([18446744065119617024, 18446744069414584320, 0, 4294967296], 1));
+    assert_eq!(plan.words()[4], 8589934592);
+    let mut halves = compiled();
+    let sums = [(); 2].map(|()| halves.fill_eras(&mut table[..2], u64::MAX).expect("a sum chain").sum);
+    assert_eq!((sums, halves), ([1, 0], plan));
+}
+
 #[test]
 fn refusals_of_eras() {
     let mut table = [7; 3];
