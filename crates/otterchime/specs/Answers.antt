@@ -44,6 +44,9 @@ abbrev pub chainWords : ChainAnswer → List ℕ
 chainWords r = r .number ∷ r .place ∷ r .length ∷ r .elements
 
 -- The same of a shift, and the word that reads as the crossing: 21 words.
+abbrev pub shiftAnswerLength : ℕ
+shiftAnswerLength = 21
+
 abbrev pub shiftWords : ShiftAnswer → List ℕ
 shiftWords r = r .number ∷ r .place ∷ r .length ∷ (r .elements ++ wordOf 64 (r .crossing) ∷ [])
 

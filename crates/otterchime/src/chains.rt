@@ -2,10 +2,11 @@
 // What a call answers is decided in `chain_calls` and `chain_coefficients`; the calls on formulas, plans and readings are in the crate's root.
 use crate::signed_word;
 use chain::ChainAnswer;
+use chain::ShiftAnswer;
 ghost use mathlib.Core.Path.{_≡_};
 ghost use lib.ListN.{length};
 ghost use Rattle.chain.specs.Answer.{answered, trimOutcome, sumOutcome, differenceOutcome, productOutcome, shiftAnswer, coefficientsOutcome, valueAnswer};
-ghost use Rattle.otterchime.specs.Answers.{chainAnswerLength, chainWords, shiftWords, valueWords};
+ghost use Rattle.otterchime.specs.Answers.{chainAnswerLength, chainWords, shiftAnswerLength, shiftWords, valueWords};
 
 // The words of an answer that is a chain, and where its elements begin.
 const CHAIN_ANSWER: usize = 20;
@@ -27,6 +28,23 @@ fn put(r: ChainAnswer, answer: &mut [u64])
     chain_arrays::lay(elements, &mut answer[ANSWER_ELEMENTS..CHAIN_ANSWER]);
 }
 
+// The same of a shift, and behind it the word that reads as the crossing.
+fn put_shift(r: ShiftAnswer, answer: &mut [u64])
+    requires { ⌜ length (now answer) ≡ shiftAnswerLength ⌝ }
+    ensures { λ _. ⌜ now (answer .exit) ≡ shiftWords r ⌝ }
+{
+    let elements = r.elements;
+    let crossing = r.crossing;
+    let shifted = ChainAnswer {
+        number: r.number,
+        place: r.place,
+        length: r.length,
+        elements,
+    };
+    answer[CHAIN_ANSWER] = signed_word(crossing);
+    put(shifted, &mut answer[0..CHAIN_ANSWER]);
+}
+
 // The chain without its trailing zeros.
 #[no_mangle]
 pub extern "C" fn otterchime_trim(f: &[u64; 17], k: u64, answer: &mut [u64; CHAIN_ANSWER])
@@ -42,15 +60,7 @@ pub extern "C" fn otterchime_shift(f: &[u64; 17], k: u64, answer: &mut [u64; SHI
     ensures { λ _. ⌜ now (answer .exit) ≡ shiftWords (shiftAnswer 64 (now (f .entry)) k) ⌝ }
 {
     let r = chain_calls::shift(*f, k as usize);
-    let crossing = r.crossing;
-    let shifted = ChainAnswer {
-        number: r.number,
-        place: r.place,
-        length: r.length,
-        elements: r.elements,
-    };
-    answer[CHAIN_ANSWER] = signed_word(crossing);
-    put(shifted, &mut answer[0..CHAIN_ANSWER]);
+    put_shift(r, answer);
 }
 
 // The chain's word at the present point.

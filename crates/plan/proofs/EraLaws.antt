@@ -1,13 +1,13 @@
 -- Laws of filling with era count: crossings over points put together, the exact position, the sum's range, what the call answers either way, and calls one
 -- after the other. What the root is as a chain is in RootChains.antt.
-use mathlib.Core.Path.{_≡_, refl, sym, ap, ap₂, subst, _∙_}
-use mathlib.Core.Bool.{Bool, true, false, cond, _||_, false≢true}
+use mathlib.Core.Path.{_≡_, refl, sym, ap, ap₂, _∙_}
+use mathlib.Core.Bool.{Bool, true, false, cond, _||_}
 use mathlib.Core.Logic.{_⊎_, inl, inr}
 use mathlib.Core.List.{List, [], _∷_}
-use Prim.Native.Nat.{ℕ, zero, suc, _+_, _-_, _*_, _/_, _^_, _≤_, _<_, min}
-use native.Mathlib.Nat.{zero-add, suc-add, suc-ne-zero, le-trans, mul-le-mul-right}
+use Prim.Native.Nat.{ℕ, zero, suc, _+_, _-_, _*_, _^_, _≤_, _<_}
+use native.Mathlib.Nat.{zero-add, suc-add, suc-ne-zero}
 use native.Mathlib.Omega.{arith}
-use borrow.Author.Tests.{eqb-true, eqb-false, eq-eqb, ne-eqb, ltb-true, ltb-false}
+use borrow.Author.Tests.{eqb-true, eqb-false, eq-eqb, ne-eqb, ltb-true}
 use lib.Dec.{eqb, ltb, le→leb}
 use lib.IntN.{ℤ, pos, negsuc, natAbs, subℕ, negℤ, _+ℤ_, _*ℤ_, +ℤ-idl, +ℤ-idr, +ℤ-assoc, +ℤ-comm}
 use lib.ListN.{length, drop}
@@ -18,21 +18,20 @@ use mir.ValLaws.{toZ-ofZ}
 use Rattle.word.proofs.WholeNumbers.{last-two, times-sum}
 use Rattle.word.proofs.Unique.{both-are}
 use Rattle.word.specs.Signed.{signed}
-use Rattle.chain.specs.Chain.{value, words}
-use Rattle.chain.specs.SumChain.{sumShift}
+use Rattle.chain.specs.Chain.{value}
 use Rattle.chain.specs.Crossing.{signedStep, crossedBy, crossing}
 use Rattle.chain.proofs.CrossingLaws.{exact-shift}
 use Rattle.plan.specs.Measures.{rowLength}
 use Rattle.plan.specs.declared.FillErasAnswer.{FillErasAnswer}
 use Rattle.plan.specs.Row.{kind, wordA, firstElement, rowCost, isChain}
-use Rattle.plan.specs.Plan.{rowCount, row, sound, rowsFrom, firstRows, rows, cost, costOf, refusal}
+use Rattle.plan.specs.Plan.{rowCount, sound, rowsFrom, firstRows, cost, costOf, refusal}
 use Rattle.plan.specs.Points.{shiftedPlan}
-use Rattle.plan.specs.Filling.{pointCost, pointsFor, planAfter, filled, fillRefused, fill}
+use Rattle.plan.specs.Filling.{pointsFor, planAfter, filled, fillRefused, fill}
 use Rattle.plan.specs.Calls.{Call, pointsOf}
-use Rattle.plan.specs.Eras.{rootRow, asChain, rootChain, erasOver, stepsOver, position, AreWords, constantOrSum, erasRefusal, FilledEras, withSum, fillEras, calledEras, sumOf}
+use Rattle.plan.specs.Eras.{rootRow, rootChain, erasOver, stepsOver, position, AreWords, constantOrSum, erasRefusal, withSum, fillEras, sumOf}
 use Rattle.plan.proofs.RowLaws.{cost-append}
 use Rattle.plan.proofs.SoundLaws.{sound-count, sound-keeps, kept-some, rows-split}
-use Rattle.plan.proofs.Keeping.{sound-shifted, sound-after, refusal-after}
+use Rattle.plan.proofs.Keeping.{sound-shifted, refusal-after}
 use Rattle.plan.proofs.Accepting.{accepted, fill-accepted, spent-fits}
 use Rattle.plan.proofs.RootChains.{root-kind, first-of, crosses-not, root-words, root-chain-shifted, root-words-shifted}
 

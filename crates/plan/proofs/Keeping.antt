@@ -472,3 +472,9 @@ cost-after w (suc n) p = cost-after w n (shiftedPlan w p) ∙ cost-shifted w p
 
 pub refusal-after : (w n : ℕ) (p : List ℕ) → refusal (planAfter w n p) ≡ refusal p
 refusal-after w n p = refusal-like (planAfter w n p) p (length-after w n p) (sound-after w n p)
+
+-- A plan that is long enough and sound stays so.
+pub good-after : (w n : ℕ) (p : List ℕ) {q : List ℕ} → q ≡ planAfter w n p → planLength ≤ length p → sound p ≡ true
+    → (planLength ≤ length q) × (sound q ≡ true)
+good-after w n p e long good =
+    (omega (arith, ap length e, length-after w n p, long), ap sound e ∙ sound-after w n p ∙ good)

@@ -72,9 +72,9 @@ fn count_table(plan: &mut [u64], table: &mut [u64]) -> i64
 fn eras_refusal(plan: &[u64]) -> u64
     ensures { λ r. ⌜ r ≡ erasRefusal (now (plan .entry)) ⌝ }
 {
-    let number = refusal(plan);
-    if number != 0 {
-        return number;
+    let judged = refusal(plan);
+    if judged != 0 {
+        return judged;
     }
     let kind = word(plan, plan[0] as usize - 1, 0);
     if kind == CONSTANT {

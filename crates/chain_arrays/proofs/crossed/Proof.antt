@@ -12,22 +12,22 @@ sub-room c = search needs
 returns : tie.Need-returns
 returns c =
     let start = c .before .before in
-    sym (crosses-up 64 (start .args .a) (start .args .b) (start .fits .a .fits) (start .fits .b .fits) (c .before .if1 .taken) (omega arith))
+    sym (crosses-up 64 (start .args .a) (start .args .b) (start .fits .a .fits) (start .fits .b .fits) (omega arith) (omega arith))
 
 returns-2 : tie.Need-returns-2
 returns-2 c =
     let start = c .before .before in
-    sym (stays-low 64 (start .args .a) (start .args .b) (start .fits .a .fits) (start .fits .b .fits) (c .before .if1 .taken) (omega arith))
+    sym (stays-low 64 (start .args .a) (start .args .b) (start .fits .a .fits) (start .fits .b .fits) (omega arith) (omega arith))
 
 returns-3 : tie.Need-returns-3
 returns-3 c =
     let start = c .before .before in
-    sym (stays-high 64 (start .args .a) (start .args .b) (start .fits .a .fits) (start .fits .b .fits) (c .before .if1 .left) (omega arith))
+    sym (stays-high 64 (start .args .a) (start .args .b) (start .fits .a .fits) (start .fits .b .fits) (omega arith) (omega arith))
 
 returns-4 : tie.Need-returns-4
 returns-4 c =
     let start = c .before .before in
-    sym (crosses-down 64 (start .args .a) (start .args .b) (start .fits .a .fits) (start .fits .b .fits) (c .before .if1 .left) (omega arith))
+    sym (crosses-down 64 (start .args .a) (start .args .b) (start .fits .a .fits) (start .fits .b .fits) (omega arith) (omega arith))
 
 pub crossed-spec : {M : Type 1} → statement M
 crossed-spec = tie.close (tie.spec sub-room returns returns-2 returns-3 returns-4)

@@ -15,25 +15,45 @@ refusal-requires : tie.Need-refusal-requires
 refusal-requires c κs = search needs
 
 returns : tie.Need-returns
-returns c = (c .before .refusal .ensures) ∙ sym (first-refusals ((c .before .before .before .args .plan) .now) (λ z. (c .if1 .taken) ((c .before .refusal .ensures) ∙ z)))
+returns c =
+    let plan = c .before .before .before .args .plan .now in
+    let judged = c .before .refusal .ensures in
+    judged ∙ sym (first-refusals plan (λ none. omega (arith, judged, none)))
 
 shared-slice-read-word : tie.Need-shared-slice-read-word
-shared-slice-read-word c = omega (arith, accepted ((c .before .before .before .before .args .plan) .now) (sym (c .before .before .refusal .ensures) ∙ (c .before .if1 .left)) .0)
+shared-slice-read-word c =
+    let plan = c .before .before .before .before .args .plan .now in
+    omega (arith, accepted plan (omega (arith, c .before .before .refusal .ensures)) .0)
 
 sub-word : tie.Need-sub-word
-sub-word c = omega (arith, sound-count ((c .before .before .before .before .args .plan) .now) (accepted ((c .before .before .before .before .args .plan) .now) (sym (c .before .before .refusal .ensures) ∙ (c .before .if1 .left)) .1))
+sub-word c =
+    let plan = c .before .before .before .before .args .plan .now in
+    omega (arith, sound-count plan (accepted plan (omega (arith, c .before .before .refusal .ensures)) .1))
 
 word-requires : tie.Need-word-requires
-word-requires c κs = let good = accepted ((c .before .before .before .before .args .plan) .now) (sym (c .before .before .refusal .ensures) ∙ (c .before .if1 .left)) in (good .0, (omega (arith, sound-count ((c .before .before .before .before .args .plan) .now) (good .1)), omega arith))
+word-requires c κs =
+    let plan = c .before .before .before .before .args .plan .now in
+    let good = accepted plan (omega (arith, c .before .before .refusal .ensures)) in
+    (good .0, (omega (arith, sound-count plan (good .1)), omega arith))
 
 returns-2 : tie.Need-returns-2
-returns-2 c = sym (last-by-kind ((c .before .before .before .before .before .before .args .plan) .now) (sym (c .before .before .before .before .refusal .ensures) ∙ (c .before .before .before .if1 .left)) (c .before .word .ensures) ∙ ap (λ k. cond (eqb k 0 || eqb k 1) 0 16) (c .if2 .taken))
+returns-2 c =
+    let plan = c .before .before .before .before .before .before .args .plan .now in
+    let known = c .before .word .ensures in
+    sym (last-by-kind plan (omega (arith, c .before .before .before .before .refusal .ensures)) known ∙ ap (λ k. cond (eqb k 0 || eqb k 1) 0 16) (c .if2 .taken))
 
 returns-3 : tie.Need-returns-3
-returns-3 c = sym (last-by-kind ((c .before .before .before .before .before .before .before .args .plan) .now) (sym (c .before .before .before .before .before .refusal .ensures) ∙ (c .before .before .before .before .if1 .left)) (c .before .before .word .ensures) ∙ ap (λ k. cond (eqb k 0 || eqb k 1) 0 16) (c .if3 .taken))
+returns-3 c =
+    let plan = c .before .before .before .before .before .before .before .args .plan .now in
+    let known = c .before .before .word .ensures in
+    sym (last-by-kind plan (omega (arith, c .before .before .before .before .before .refusal .ensures)) known ∙ ap (λ k. cond (eqb k 0 || eqb k 1) 0 16) (c .if3 .taken))
 
 returns-4 : tie.Need-returns-4
-returns-4 c = sym (last-by-kind ((c .before .before .before .before .before .before .before .args .plan) .now) (sym (c .before .before .before .before .before .refusal .ensures) ∙ (c .before .before .before .before .if1 .left)) (c .before .before .word .ensures) ∙ rw (ne-eqb (c .before .before .word .result) 0 (c .before .if2 .left), ne-eqb (c .before .before .word .result) 1 (c .if3 .left)))
+returns-4 c =
+    let plan = c .before .before .before .before .before .before .before .args .plan .now in
+    let kind = c .before .before .word in
+    sym (last-by-kind plan (omega (arith, c .before .before .before .before .before .refusal .ensures)) (kind .ensures)
+    ∙ rw (ne-eqb (kind .result) 0 (c .before .if2 .left), ne-eqb (kind .result) 1 (c .if3 .left)))
 
 pub eras-refusal-spec : {M : Type 1} → statement M
 eras-refusal-spec =

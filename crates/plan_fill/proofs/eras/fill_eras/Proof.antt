@@ -18,10 +18,14 @@ same-length : tie.Need-same-length
 same-length c = search needs
 
 returns : tie.Need-returns
-returns c = eras-refused ((c .before .before .before .before .before .args .plan) .now) ((c .before .before .before .before .before .args .table) .now) (c .before .before .before .before .before .args .budget) (c .before .eras-refusal .ensures) (c .if1 .taken)
+returns c =
+    let args = c .before .before .before .before .before .args in
+    eras-refused (args .plan .now) (args .table .now) (args .budget) (c .before .eras-refusal .ensures) (c .if1 .taken)
 
 plan-cost-requires : tie.Need-plan-cost-requires
-plan-cost-requires c κs = accepted ((c .before .before .before .before .before .before .args .plan) .now) (eras-accepted ((c .before .before .before .before .before .before .args .plan) .now) (sym (c .before .before .eras-refusal .ensures) ∙ (c .before .if1 .left)) .0)
+plan-cost-requires c κs =
+    let plan = c .before .before .before .before .before .before .args .plan .now in
+    accepted plan (eras-accepted plan (omega (arith, c .before .before .eras-refusal .ensures)) .0)
 
 add-point-cost : tie.Need-add-point-cost
 add-point-cost c = search needs
@@ -42,10 +46,15 @@ part-count-table-end : tie.Need-part-count-table-end
 part-count-table-end c = search needs
 
 count-table-requires : tie.Need-count-table-requires
-count-table-requires c κs = accepted ((c .before .before .before .before .before .before .before .before .before .before .args .plan) .now) (eras-accepted ((c .before .before .before .before .before .before .before .before .before .before .args .plan) .now) (sym (c .before .before .before .before .before .before .eras-refusal .ensures) ∙ (c .before .before .before .before .before .if1 .left)) .0)
+count-table-requires c κs =
+    let plan = c .before .before .before .before .before .before .before .before .before .before .args .plan .now in
+    accepted plan (eras-accepted plan (omega (arith, c .before .before .before .before .before .before .eras-refusal .ensures)) .0)
 
 mul-spent : tie.Need-mul-spent
-mul-spent c = omega (arith, spent-fits (c .before .before .before .before .before .before .before .before .before .before .before .before .before .before .before .args .budget) (c .before .before .before .before .before .before .before .before .plan-cost .result) (c .before .before .before .before .before .before .before .lesser .result) (length ((c .before .before .before .before .before .before .before .before .before .before .before .before .before .before .before .args .table) .now)) (c .before .before .before .before .before .before .before .lesser .ensures))
+mul-spent c =
+    let args = c .before .before .before .before .before .before .before .before .before .before .before .before .before .before .before .args in
+    let points = c .before .before .before .before .before .before .before .lesser in
+    omega (arith, spent-fits (args .budget) (c .before .before .before .before .before .before .before .before .plan-cost .result) (points .result) (length (args .table .now)) (points .ensures))
 
 same-length-2 : tie.Need-same-length-2
 same-length-2 c = search needs
@@ -54,7 +63,19 @@ same-length-3 : tie.Need-same-length-3
 same-length-3 c = search needs
 
 returns-2 : tie.Need-returns-2
-returns-2 c = let plan = (c .before .before .before .before .before .before .before .before .before .before .before .before .before .before .before .args .plan) .now in let table = (c .before .before .before .before .before .before .before .before .before .before .before .before .before .before .before .args .table) .now in let good = sym (c .before .before .before .before .before .before .before .before .before .before .before .eras-refusal .ensures) ∙ (c .before .before .before .before .before .before .before .before .before .before .if1 .left) in eras-done plan table (c .before .before .before .before .before .before .before .before .before .before .before .before .before .before .before .args .budget) good (fill-done plan table (c .before .before .before .before .before .before .before .before .before .before .before .before .before .before .before .args .budget) (eras-accepted plan good .0) ((c .before .before .before .before .before .before .before .before .plan-cost .ensures) .0) (c .before .before .before .before .before .before .before .lesser .ensures) ((c .before .before .before .before .count-table .ensures) .1 .0) ((c .before .before .before .before .count-table .ensures) .1 .1)) (toZ-ofZ w64 (c .before .before .before .before .count-table .result) (record { sfits = (c .before .before .before .before .count-table .ok) }) ∙ (c .before .before .before .before .count-table .ensures) .0 ∙ ap (λ n. erasOver 64 n plan) (points-whole table (c .before .before .before .before .before .before .before .lesser .result) _ (c .before .before .before .before .before .before .before .lesser .ensures)))
+returns-2 c =
+    let args = c .before .before .before .before .before .before .before .before .before .before .before .before .before .before .before .args in
+    let plan = args .plan .now in
+    let table = args .table .now in
+    let points = c .before .before .before .before .before .before .before .lesser in
+    let counted = c .before .before .before .before .count-table in
+    let good = sym (c .before .before .before .before .before .before .before .before .before .before .before .eras-refusal .ensures) ∙ c .before .before .before .before .before .before .before .before .before .before .if1 .left in
+    eras-done plan table (args .budget) good
+    (fill-done plan table (args .budget) (eras-accepted plan good .0) (c .before .before .before .before .before .before .before .before .plan-cost .ensures .0) (points .ensures) (counted .ensures .1 .0)
+    (counted .ensures .1 .1))
+    (toZ-ofZ w64 (counted .result) (record { sfits = counted .ok })
+    ∙ counted .ensures .0
+    ∙ ap (λ n. erasOver 64 n plan) (points-whole table (points .result) _ (points .ensures)))
 
 pub fill-eras-spec : {M : Type 1} → statement M
 fill-eras-spec =

@@ -14,28 +14,46 @@ shared-slice-read-root : tie.Need-shared-slice-read-root
 shared-slice-read-root c = search needs
 
 sub-root : tie.Need-sub-root
-sub-root c = omega (arith, sound-count ((c .before .before .args .plan) .now) ((c .before .before .pre) .1))
+sub-root c =
+    let start = c .before .before in
+    omega (arith, sound-count (start .args .plan .now) (start .pre .1))
 
 word-requires : tie.Need-word-requires
-word-requires c κs = ((c .before .before .pre) .0, (omega (arith, sound-count ((c .before .before .args .plan) .now) ((c .before .before .pre) .1)), omega arith))
+word-requires c κs =
+    let start = c .before .before in
+    (start .pre .0, (omega (arith, sound-count (start .args .plan .now) (start .pre .1)), omega arith))
 
 returns : tie.Need-returns
-returns c = sym (crosses-not 64 (rootRow ((c .before .before .before .before .args .plan) .now)) (λ k. (c .if1 .taken) ((c .before .word .ensures) ∙ k)))
+returns c =
+    let plan = c .before .before .before .before .args .plan .now in
+    let known = c .before .word .ensures in
+    sym (crosses-not 64 (rootRow plan) (λ k. omega (arith, known, k)))
 
 word-requires-2 : tie.Need-word-requires-2
-word-requires-2 c κs = ((c .before .before .before .before .pre) .0, (omega (arith, sound-count ((c .before .before .before .before .args .plan) .now) ((c .before .before .before .before .pre) .1)), omega arith))
+word-requires-2 c κs =
+    let start = c .before .before .before .before in
+    (start .pre .0, (omega (arith, sound-count (start .args .plan .now) (start .pre .1)), omega arith))
 
 add-word : tie.Need-add-word
 add-word c = search needs
 
 word-requires-3 : tie.Need-word-requires-3
-word-requires-3 c κs = ((c .before .before .before .before .before .pre) .0, (omega (arith, sound-count ((c .before .before .before .before .before .args .plan) .now) ((c .before .before .before .before .before .pre) .1)), omega arith))
+word-requires-3 c κs =
+    let start = c .before .before .before .before .before in
+    (start .pre .0, (omega (arith, sound-count (start .args .plan .now) (start .pre .1)), omega arith))
 
 crossed-requires : tie.Need-crossed-requires
 crossed-requires c κs = search needs
 
 returns-2 : tie.Need-returns-2
-returns-2 c = toZ-ofZ w64 (c .crossed .result) (record { sfits = (c .crossed .ok) }) ∙ (c .crossed .ensures) ∙ root-crosses 64 ((c .before .before .before .before .before .before .before .args .plan) .now) ((c .before .before .before .before .before .before .before .pre) .1) (c .before .before .before .before .word .ensures) (c .before .before .before .if1 .left) (c .before .before .word2 .ensures) (c .before .before .word2 .ok) (c .before .word3 .ensures)
+returns-2 c =
+    let start = c .before .before .before .before .before .before .before in
+    let kind = c .before .before .before .before .word in
+    let first = c .before .before .word2 in
+    let second = c .before .word3 in
+    toZ-ofZ w64 (c .crossed .result) (record { sfits = c .crossed .ok })
+    ∙ c .crossed .ensures
+    ∙ root-crosses 64 (start .args .plan .now) (start .pre .1) (kind .ensures) (omega arith) (first .ensures) (first .ok) (second .ensures)
 
 pub root-crossing-spec : {M : Type 1} → statement M
 root-crossing-spec =
