@@ -14,7 +14,7 @@ use Rattle.plan.specs.declared.CostAnswer.{CostAnswer}
 use Rattle.plan.specs.Plan.{rowCount, rowsFrom, firstRows, sound, costOf, cost, refusal}
 use Rattle.plan.specs.Filling.{pointCost, pointsFor, planAfter, pointValues, filled, fill, costAnswer}
 use Rattle.plan.proofs.RowLaws.{cost-next}
-use Rattle.plan.proofs.SoundLaws.{sound-count, part-cost}
+use Rattle.plan.proofs.SoundLaws.{sound-count, row-facts}
 use Rattle.plan.proofs.Accepting.{accepted, fill-accepted}
 use Rattle.table_fields.specs.Writing.{Wrote}
 use Rattle.table_fields.proofs.Joining.{wrote-same, joined}
@@ -29,7 +29,7 @@ no-cost p = refl
 cost-up-to : (p : List ℕ) (r : ℕ) → planLength ≤ length p → sound p ≡ true → r ≤ rowCount p → costOf (firstRows r p) ≤ 128 * r
 cost-up-to p zero long e h = omega (arith, no-cost p)
 cost-up-to p (suc r) long e h =
-    omega (arith, cost-up-to p r long e (omega arith), part-cost p r long e h, cost-next r p, ap (λ n. costOf (firstRows n p)) (add-one r))
+    omega (arith, cost-up-to p r long e (omega arith), row-facts p r long e h refl .cost, cost-next r p, ap (λ n. costOf (firstRows n p)) (add-one r))
 
 pub cost-most : (p : List ℕ) → refusal p ≡ 0 → cost p ≤ 16384
 cost-most p e =

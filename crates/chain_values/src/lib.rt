@@ -1,0 +1,53 @@
+// Sum chains by their values: products and powers of values, and the chain through them. Flat loops over 17 words.
+// Whether the lengths allow a product is checked by the callers.
+use chain_arrays::Operation;
+use chain_arrays::word_by_word;
+ghost use mathlib.Core.Path.{_≡_};
+ghost use Rattle.chain.specs.Chain.{row, words};
+ghost use Rattle.chain.specs.SumChain.{product, power};
+ghost use Rattle.chain_arrays.specs.Operations.{worked};
+ghost use Rattle.chain_values.specs.Passes.{met, passes};
+
+// One pass, from the top down: each word meets its lower neighbour's old value.
+fn meet(operation: Operation, part: &mut [u64])
+    ensures { λ _. ⌜ now (part .exit) ≡ met (worked operation) (now (part .entry)) ⌝ }
+{
+    let mut left = part.len();
+    while 1 < left {
+        let at = left - 2;
+        part[at + 1] = chain_arrays::worked(operation, part[at + 1], part[at]);
+        left -= 1;
+    }
+}
+
+// With sums the values of a chain at 0 to 16, with differences the chain through 17 values.
+fn passes(operation: Operation, mut f: [u64; 17]) -> [u64; 17]
+    ensures { λ r. ⌜ r ≡ passes (worked operation) 16 f ⌝ }
+{
+    let mut j = 0;
+    while j < 16 {
+        meet(operation, &mut f[j..]);
+        j += 1;
+    }
+    f
+}
+
+// The product of two chains.
+pub fn product(f: [u64; 17], g: [u64; 17]) -> [u64; 17]
+    ensures { λ r. ⌜ r ≡ row 17 (words 64 (product f g)) ⌝ }
+{
+    let products = word_by_word(
+        Operation::Product,
+        passes(Operation::Sum, f),
+        passes(Operation::Sum, g),
+    );
+    passes(Operation::Difference, products)
+}
+
+// A chain to the n.
+pub fn power(f: [u64; 17], n: u64) -> [u64; 17]
+    ensures { λ r. ⌜ r ≡ row 17 (words 64 (power f n)) ⌝ }
+{
+    let powers = word_by_word(Operation::Power, passes(Operation::Sum, f), [n; 17]);
+    passes(Operation::Difference, powers)
+}
