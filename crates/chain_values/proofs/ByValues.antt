@@ -2,15 +2,16 @@
 -- and a power may be worked out on values, which decide the elements (canonicity). Over the width, and for lists of any length.
 use mathlib.Core.Path.{_≡_, refl, sym, ap, ap₂, _∙_}
 use mathlib.Core.List.{List, [], _∷_}
-use Prim.Native.Nat.{ℕ, zero, suc, _+_, _*_, _%_, _^_, _<_, _≤_}
+use Prim.Native.Nat.{ℕ, zero, suc, _+_, _-_, _*_, _%_, _^_, _<_, _≤_}
 use native.Mathlib.Nat.{add-comm, mod-mod, le-of-suc-le-suc, not-suc-le-zero}
 use native.Mathlib.Omega.{arith}
 use lib.ListN.{length, getD, replicate, getD-replicate}
+use lib.Pow.{pow-pos}
 use mir.Syntax.{w64}
 use mir.Val.{Fits}
 use Rattle.word.specs.Word as Word
 use Rattle.word.proofs.Modulo.{add-same, mul-same, pow-same}
-use Rattle.word.proofs.Ring.{sum-comm, difference-sum}
+use Rattle.word.proofs.Ring.{word-fits, sum-comm, difference-sum}
 use Rattle.chain.specs.Chain.{shift, words, row}
 use Rattle.chain.specs.SumChain.{sumAt, sumShift, product, power}
 use Rattle.chain.proofs.Rows.{entry-value, row-whole, words-whole}
@@ -71,14 +72,28 @@ module _ (w : ℕ) where
       later : List ℕ
       later = passes (Word.difference w) n gaps
 
+  behind-fits : (a : ℕ) (v : List ℕ) (i : ℕ) → getD (behind (Word.difference w) a v) i 0 < 2 ^ w
+  unfolding behind
+  behind-fits a [] i = pow-pos w
+  behind-fits a (b ∷ v) zero = word-fits w (b + (2 ^ w - a % 2 ^ w))
+  behind-fits a (b ∷ v) (suc i) = behind-fits b v i
+
+  passes-fit : (n : ℕ) (v : List ℕ) → ((i : ℕ) → getD v i 0 < 2 ^ w) → (i : ℕ) → getD (passes (Word.difference w) n v) i 0 < 2 ^ w
+  unfolding passes
+  passes-fit zero v fits i = fits i
+  passes-fit (suc n) [] fits i = pow-pos w
+  passes-fit (suc n) (a ∷ v) fits zero = fits 0
+  passes-fit (suc n) (a ∷ v) fits (suc i) = passes-fit n (behind (Word.difference w) a v) (behind-fits a v) i
+
   -- Words that are the chain through the values of h are h's first elements.
-  pub through-values : (n : ℕ) (h v : List ℕ) {r : List ℕ} → length v ≡ suc n → ((i : ℕ) → getD r i 0 < 2 ^ w)
+  pub through-values : (n : ℕ) (h v : List ℕ) {r : List ℕ} → length v ≡ suc n → ((i : ℕ) → getD v i 0 < 2 ^ w)
       → r ≡ passes (Word.difference w) n v → ((i : ℕ) → i < suc n → getD v i 0 % 2 ^ w ≡ sumAt h i % 2 ^ w) → r ≡ row (suc n) (words w h)
   through-values n h v {r} long fits e same =
-      sym (row-whole (suc n) r (ap length e ∙ length-passes (Word.difference w) n v ∙ long))
-      ∙ ap (λ l. row (suc n) l) (sym (words-whole w r fits))
-      ∙ same-row w (suc n) r h
-      (λ i k. ap (λ l. sumAt l i % 2 ^ w) e ∙ value-through i n v (rw long k) (le-of-suc-le-suc k) ∙ same i k)
+      e
+      ∙ sym (row-whole (suc n) (passes (Word.difference w) n v) (length-passes (Word.difference w) n v ∙ long))
+      ∙ ap (λ l. row (suc n) l) (sym (words-whole w (passes (Word.difference w) n v) (passes-fit n v fits)))
+      ∙ same-row w (suc n) (passes (Word.difference w) n v) h
+      (λ i k. value-through i n v (rw long k) (le-of-suc-le-suc k) ∙ same i k)
 
 -- ---- products and powers of 17 values
 module _ (f : List ℕ) (long : length f ≡ 17) {v : List ℕ} (values : v ≡ passes (Word.sum 64) 16 f) where
@@ -88,7 +103,7 @@ module _ (f : List ℕ) (long : length f ≡ 17) {v : List ℕ} (values : v ≡ 
   length-values : length v ≡ 17
   length-values = ap length values ∙ length-passes (Word.sum 64) 16 f ∙ long
 
-  pub power-by-values : (n : ℕ) {p r : List ℕ} → ((i : ℕ) → Fits w64 (getD r i 0))
+  pub power-by-values : (n : ℕ) {p r : List ℕ} → ((i : ℕ) → Fits w64 (getD p i 0))
       → p ≡ wordByWord Power v (replicate 17 n) → r ≡ passes (Word.difference 64) 16 p → r ≡ row 17 (words 64 (power f n))
   power-by-values n {p} fits e q =
       through-values 64 16 (power f n) p (ap length e ∙ length-paired (worked Power) 17 v (replicate 17 n) length-values refl) (λ i. fits i .fits) q powers
@@ -102,7 +117,7 @@ module _ (f : List ℕ) (long : length f ≡ 17) {v : List ℕ} (values : v ≡ 
           ∙ pow-same (2 ^ 64) (getD v i 0) (sumAt f i) n (value-at i h)
           ∙ ap (λ z. z % 2 ^ 64) (sym (value-power f n i))
 
-pub product-by-values : (f g : List ℕ) → length f ≡ 17 → length g ≡ 17 → {u v p r : List ℕ} → ((i : ℕ) → Fits w64 (getD r i 0))
+pub product-by-values : (f g : List ℕ) → length f ≡ 17 → length g ≡ 17 → {u v p r : List ℕ} → ((i : ℕ) → Fits w64 (getD p i 0))
     → u ≡ passes (Word.sum 64) 16 f → v ≡ passes (Word.sum 64) 16 g
     → p ≡ wordByWord Product u v → r ≡ passes (Word.difference 64) 16 p → r ≡ row 17 (words 64 (product f g))
 product-by-values f g f-long g-long {u} {v} {p} fits e-u e-v e q =

@@ -3,6 +3,7 @@
 use chain_arrays::Operation;
 use chain_arrays::word_by_word;
 ghost use mathlib.Core.Path.{_≡_};
+ghost use lib.ListN.{length};
 ghost use Rattle.chain.specs.Chain.{row, words};
 ghost use Rattle.chain.specs.SumChain.{product, power};
 ghost use Rattle.chain_arrays.specs.Operations.{worked};
@@ -20,34 +21,35 @@ fn meet(operation: Operation, part: &mut [u64])
     }
 }
 
-// With sums the values of a chain at 0 to 16, with differences the chain through 17 values.
-fn passes(operation: Operation, mut f: [u64; 17]) -> [u64; 17]
-    ensures { λ r. ⌜ r ≡ passes (worked operation) 16 f ⌝ }
+// In place: with sums the values of a chain at 0 to 16, with differences the chain through 17 values.
+fn passes(operation: Operation, f: &mut [u64])
+    requires { ⌜ length (now f) ≡ 17 ⌝ }
+    ensures { λ _. ⌜ now (f .exit) ≡ passes (worked operation) 16 (now (f .entry)) ⌝ }
 {
     let mut j = 0;
     while j < 16 {
-        meet(operation, &mut f[j..]);
+        meet(operation, &mut f[j..17]);
         j += 1;
     }
-    f
 }
 
 // The product of two chains.
-pub fn product(f: [u64; 17], g: [u64; 17]) -> [u64; 17]
+pub fn product(mut f: [u64; 17], mut g: [u64; 17]) -> [u64; 17]
     ensures { λ r. ⌜ r ≡ row 17 (words 64 (product f g)) ⌝ }
 {
-    let products = word_by_word(
-        Operation::Product,
-        passes(Operation::Sum, f),
-        passes(Operation::Sum, g),
-    );
-    passes(Operation::Difference, products)
+    passes(Operation::Sum, &mut f);
+    passes(Operation::Sum, &mut g);
+    let mut r = word_by_word(Operation::Product, f, g);
+    passes(Operation::Difference, &mut r);
+    r
 }
 
 // A chain to the n.
-pub fn power(f: [u64; 17], n: u64) -> [u64; 17]
+pub fn power(mut f: [u64; 17], n: u64) -> [u64; 17]
     ensures { λ r. ⌜ r ≡ row 17 (words 64 (power f n)) ⌝ }
 {
-    let powers = word_by_word(Operation::Power, passes(Operation::Sum, f), [n; 17]);
-    passes(Operation::Difference, powers)
+    passes(Operation::Sum, &mut f);
+    let mut r = word_by_word(Operation::Power, f, [n; 17]);
+    passes(Operation::Difference, &mut r);
+    r
 }

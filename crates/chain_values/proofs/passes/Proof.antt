@@ -1,5 +1,5 @@
 -- `passes` makes 16 passes over 17 words. Invariant: j of them are made.
-use mathlib.Core.Path.{_≡_, _∙_, ap, refl}
+use mathlib.Core.Path.{_≡_, _∙_, ap}
 use Prim.Native.Nat.{_+_, _-_, _≤_}
 use native.Mathlib.Omega.{arith}
 use lib.ListN.{length}
@@ -17,19 +17,19 @@ abbrev μ-loop : tie.MeasureT-loop
 μ-loop operation f₀ j₀ f j = 16 - j
 
 loop-holds : tie.Need-loop-holds Inv-loop μ-loop
-loop-holds c = (omega arith, search needs, passes-none (worked (c .args .operation)) (c .args .t2))
+loop-holds c = (omega arith, c .before .pre, passes-none (worked (c .before .args .operation)) (c .before .args .f .now))
 
-mul-f : tie.Need-mul-f Inv-loop μ-loop
-mul-f c = search needs
+mul-meet : tie.Need-mul-meet Inv-loop μ-loop
+mul-meet c = search needs
 
 sub-meet : tie.Need-sub-meet Inv-loop μ-loop
 sub-meet c = search needs
 
-part-f-start : tie.Need-part-f-start Inv-loop μ-loop
-part-f-start c = search needs
+part-meet-start : tie.Need-part-meet-start Inv-loop μ-loop
+part-meet-start c = search needs
 
-part-f-end : tie.Need-part-f-end Inv-loop μ-loop
-part-f-end c = omega arith
+part-meet-end : tie.Need-part-meet-end Inv-loop μ-loop
+part-meet-end c = omega arith
 
 meet-requires : tie.Need-meet-requires Inv-loop μ-loop
 meet-requires c κs = search needs
@@ -42,17 +42,21 @@ loop-less c = search needs
 
 loop-again : tie.Need-loop-again Inv-loop μ-loop
 loop-again c =
-    let turn = c .before .before .before .before .loop in
-    let args = c .before .before .before .before .before .args in
-    let long : length (args .t2) ≡ 17 = search needs in
-    let made = pass-turn (worked (args .operation)) (turn .j) (args .t2) long (turn .inv .2) (c .before .meet .ensures) in
-    (omega arith, ap length made ∙ length-passes (worked (args .operation)) (turn .j + 1) (args .t2) ∙ long, made)
+    let turn = c .before .before .before .before .before .loop in
+    let start = c .before .before .before .before .before .before .before in
+    let operation = worked (start .args .operation) in
+    let f = start .args .f .now in
+    let made = pass-turn operation (turn .j) f (start .pre) (turn .inv .2) (c .before .before .meet .ensures) in
+    (omega arith, ap length made ∙ length-passes operation (turn .j + 1) f ∙ start .pre, made)
+
+same-length : tie.Need-same-length Inv-loop μ-loop
+same-length c = search needs
 
 returns : tie.Need-returns Inv-loop μ-loop
 returns c =
     let turn = c .before .loop in
-    let args = c .before .before .args in
-    turn .inv .2 ∙ ap (λ n. passes (worked (args .operation)) n (args .t2)) (omega arith)
+    let args = c .before .before .before .args in
+    turn .inv .2 ∙ ap (λ n. passes (worked (args .operation)) n (args .f .now)) (omega arith)
 
 pub passes-spec : {M : Type 1} → statement M
 passes-spec =
@@ -61,12 +65,13 @@ passes-spec =
     Inv-loop
     μ-loop
     loop-holds
-    mul-f
+    mul-meet
     sub-meet
-    part-f-start
-    part-f-end
+    part-meet-start
+    part-meet-end
     meet-requires
     add-j
     loop-less
     loop-again
+    same-length
     returns)

@@ -4,19 +4,33 @@ use Rattle.chain_values.proofs.ByValues.{power-by-values}
 use Rattle.chain_values.proofs.power.Statement.{statement}
 use Rattle.chain_values.proofs.power.Tie as tie
 
+slice-aggregate-passes : tie.Need-slice-aggregate-passes
+slice-aggregate-passes c = search needs
+
 passes-requires : tie.Need-passes-requires
 passes-requires c κs = search needs
 
 word-by-word-requires : tie.Need-word-by-word-requires
 word-by-word-requires c κs = search needs
 
+slice-aggregate-passes-2 : tie.Need-slice-aggregate-passes-2
+slice-aggregate-passes-2 c = search needs
+
 passes-requires-2 : tie.Need-passes-requires-2
 passes-requires-2 c κs = search needs
 
 returns : tie.Need-returns
 returns c =
-    let args = c .before .before .before .args in
-    power-by-values (args .f) (search needs) (c .before .before .passes .ensures) (args .n) (λ i. search needs) (c .before .word-by-word .ensures) (c .passes2 .ensures)
+    let args = c .before .before .before .before .before .before .before .args in
+    power-by-values (args .t1) (search needs) (c .before .before .before .before .before .passes .ensures) (args .n) (λ i. search needs) (c .before .before .before .word-by-word .ensures) (c .before .passes2 .ensures)
 
 pub power-spec : {M : Type 1} → statement M
-power-spec = tie.close (tie.spec passes-requires word-by-word-requires passes-requires-2 returns)
+power-spec =
+    tie.close
+    (tie.spec
+    slice-aggregate-passes
+    passes-requires
+    word-by-word-requires
+    slice-aggregate-passes-2
+    passes-requires-2
+    returns)
