@@ -1,11 +1,11 @@
 -- Passes by values: with sums a sum chain becomes its values at 0, 1, .., with differences values become the chain through them. So a product
 -- and a power may be worked out on values, which decide the elements (canonicity). Over the width, and for lists of any length.
 use mathlib.Core.Path.{_≡_, refl, sym, ap, ap₂, _∙_}
-use mathlib.Core.List.{List, [], _∷_}
+use mathlib.Core.List.{List, [], _∷_, map}
 use Prim.Native.Nat.{ℕ, zero, suc, _+_, _-_, _*_, _%_, _^_, _<_, _≤_}
 use native.Mathlib.Nat.{add-comm, mod-mod, le-of-suc-le-suc, not-suc-le-zero}
 use native.Mathlib.Omega.{arith}
-use lib.ListN.{length, getD, replicate, getD-replicate}
+use lib.ListN.{length, getD, length-map}
 use lib.Pow.{pow-pos}
 use mir.Syntax.{w64}
 use mir.Val.{Fits}
@@ -17,7 +17,7 @@ use Rattle.chain.specs.SumChain.{sumAt, sumShift, product, power}
 use Rattle.chain.proofs.Rows.{entry-value, row-whole, words-whole}
 use Rattle.chain.proofs.SumLaws.{sum-now, sum-next, sum-shift, value-words, value-product, value-power}
 use Rattle.chain.proofs.Canonical.{value-row, same-row}
-use Rattle.chain_arrays.specs.declared.Operation.the-variants.{Product, Power}
+use Rattle.chain_arrays.specs.declared.Operation.the-variants.{Product}
 use Rattle.chain_arrays.specs.Operations.{worked, wordByWord}
 use Rattle.chain_arrays.proofs.Paired.{entry-paired, length-paired}
 use Rattle.chain_values.specs.Passes.{behind, passes}
@@ -103,17 +103,26 @@ module _ (f : List ℕ) (long : length f ≡ 17) {v : List ℕ} (values : v ≡ 
   length-values : length v ≡ 17
   length-values = ap length values ∙ length-passes (Word.sum 64) 16 f ∙ long
 
-  pub power-by-values : (n : ℕ) {p r : List ℕ} → ((i : ℕ) → Fits w64 (getD p i 0))
-      → p ≡ wordByWord Power v (replicate 17 n) → r ≡ passes (Word.difference 64) 16 p → r ≡ row 17 (words 64 (power f n))
-  power-by-values n {p} fits e q =
-      through-values 64 16 (power f n) p (ap length e ∙ length-paired (worked Power) 17 v (replicate 17 n) length-values refl) (λ i. fits i .fits) q powers
+  pub power-by-values : (n : ℕ) {p r : List ℕ} → p ≡ map (λ a. Word.power 64 a n) v → r ≡ passes (Word.difference 64) 16 p
+      → r ≡ row 17 (words 64 (power f n))
+  power-by-values n {p} e q =
+      through-values 64 16 (power f n) p (ap length e ∙ length-map v (λ a. Word.power 64 a n) ∙ length-values) (λ i. rw e (powers-fit v i)) q powers
     where
+      powers-fit : (v : List ℕ) (i : ℕ) → getD (map (λ a. Word.power 64 a n) v) i 0 < 2 ^ 64
+      powers-fit [] i = omega arith
+      powers-fit (a ∷ v) zero = word-fits 64 (a ^ n)
+      powers-fit (a ∷ v) (suc i) = powers-fit v i
+
+      entry : (v : List ℕ) (i : ℕ) → i < length v → getD (map (λ a. Word.power 64 a n) v) i 0 ≡ getD v i 0 ^ n % 2 ^ 64
+      entry [] i h = absurd (not-suc-le-zero h)
+      entry (a ∷ v) zero h = refl
+      entry (a ∷ v) (suc i) h = entry v i (le-of-suc-le-suc h)
+
       powers : (i : ℕ) → i < 17 → getD p i 0 % 2 ^ 64 ≡ sumAt (power f n) i % 2 ^ 64
       powers i h =
           ap (λ l. getD l i 0 % 2 ^ 64) e
-          ∙ ap (λ z. z % 2 ^ 64) (entry-paired (worked Power) v (replicate 17 n) i (rw length-values h) h)
-          ∙ mod-mod (getD v i 0 ^ getD (replicate 17 n) i 0) (2 ^ 64)
-          ∙ ap (λ m. getD v i 0 ^ m % 2 ^ 64) (getD-replicate 17 i n 0 h)
+          ∙ ap (λ z. z % 2 ^ 64) (entry v i (rw length-values h))
+          ∙ mod-mod (getD v i 0 ^ n) (2 ^ 64)
           ∙ pow-same (2 ^ 64) (getD v i 0) (sumAt f i) n (value-at i h)
           ∙ ap (λ z. z % 2 ^ 64) (sym (value-power f n i))
 

@@ -1,6 +1,6 @@
--- Passes over a lent part and over an array: what the loops leave after each turn. What the passes are worth is in ByValues.antt.
+-- Passes over a lent part and over an array, and every word of a part: what the loops leave after each turn. What the passes are worth is in ByValues.antt.
 use mathlib.Core.Path.{_≡_, refl, sym, ap, ap₂, _∙_}
-use mathlib.Core.List.{List, [], _∷_, _++_, append-nil}
+use mathlib.Core.List.{List, [], _∷_, _++_, append-nil, map}
 use Prim.Native.Nat.{ℕ, zero, suc, _+_, _-_, _<_, _≤_}
 use native.Mathlib.Nat.{le-of-suc-le-suc, not-suc-le-zero}
 use native.Mathlib.Numerals.{add-one}
@@ -100,3 +100,29 @@ module _ (_⊙_ : ℕ → ℕ → ℕ) where
     where
       short : length (drop j r) ≤ 17 - j
       short = omega (arith, length-drop j r, ap length e, length-passes j f)
+
+-- ---- every word, in place: the first i are done
+module _ (h : ℕ → ℕ) where
+  pub done : ℕ → List ℕ → List ℕ
+  done i f = take i (map h f) ++ drop i f
+
+  pub done-none : (f : List ℕ) → f ≡ done 0 f
+  unfolding done
+  done-none f = refl
+
+  pub done-all : (i : ℕ) (f : List ℕ) → length f ≤ i → done i f ≡ map h f
+  unfolding done
+  done-all zero [] k = refl
+  done-all (suc i) [] k = refl
+  done-all zero (a ∷ f) k = absurd (not-suc-le-zero k)
+  done-all (suc i) (a ∷ f) k = ap {B = List ℕ} (λ g. h a ∷ g) (done-all i f (le-of-suc-le-suc k))
+
+  does : (i : ℕ) (f : List ℕ) → i < length f → set (done i f) i (h (getD (done i f) i 0)) ≡ done (suc i) f
+  unfolding done
+  does i [] k = absurd (not-suc-le-zero k)
+  does zero (a ∷ f) k = refl
+  does (suc i) (a ∷ f) k = ap {B = List ℕ} (λ g. h a ∷ g) (does i f (le-of-suc-le-suc k))
+
+  pub done-turn : (i : ℕ) (f : List ℕ) {r : List ℕ} {v : ℕ} → i < length f → r ≡ done i f → v ≡ h (getD r i 0) → set r i v ≡ done (i + 1) f
+  done-turn i f {r} k e q =
+      ap (λ x. set r i x) q ∙ ap (λ l. set l i (h (getD l i 0))) e ∙ does i f k ∙ ap (λ n. done n f) (sym (add-one i))

@@ -3,7 +3,9 @@
 use chain_arrays::Operation;
 use chain_arrays::word_by_word;
 ghost use mathlib.Core.Path.{_≡_};
+ghost use mathlib.Core.List.{map};
 ghost use lib.ListN.{length};
+ghost use Rattle.word.specs.Word as Word;
 ghost use Rattle.chain.specs.Chain.{row, words};
 ghost use Rattle.chain.specs.SumChain.{product, power};
 ghost use Rattle.chain_arrays.specs.Operations.{worked};
@@ -44,12 +46,23 @@ pub fn product(mut f: [u64; 17], mut g: [u64; 17]) -> [u64; 17]
     r
 }
 
+// Every word to the n, in place.
+fn raise(f: &mut [u64], n: u64)
+    ensures { λ _. ⌜ now (f .exit) ≡ map (λ a. Word.power 64 a n) (now (f .entry)) ⌝ }
+{
+    let mut i = 0;
+    while i < f.len() {
+        f[i] = word::power(f[i], n);
+        i += 1;
+    }
+}
+
 // A chain to the n.
 pub fn power(mut f: [u64; 17], n: u64) -> [u64; 17]
     ensures { λ r. ⌜ r ≡ row 17 (words 64 (power f n)) ⌝ }
 {
     passes(Operation::Sum, &mut f);
-    let mut r = word_by_word(Operation::Power, f, [n; 17]);
-    passes(Operation::Difference, &mut r);
-    r
+    raise(&mut f, n);
+    passes(Operation::Difference, &mut f);
+    f
 }

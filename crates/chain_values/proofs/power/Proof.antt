@@ -10,8 +10,11 @@ slice-aggregate-passes c = search needs
 passes-requires : tie.Need-passes-requires
 passes-requires c κs = search needs
 
-word-by-word-requires : tie.Need-word-by-word-requires
-word-by-word-requires c κs = search needs
+slice-aggregate-raise : tie.Need-slice-aggregate-raise
+slice-aggregate-raise c = search needs
+
+raise-requires : tie.Need-raise-requires
+raise-requires c κs = search needs
 
 slice-aggregate-passes-2 : tie.Need-slice-aggregate-passes-2
 slice-aggregate-passes-2 c = search needs
@@ -21,8 +24,8 @@ passes-requires-2 c κs = search needs
 
 returns : tie.Need-returns
 returns c =
-    let args = c .before .before .before .before .before .before .before .args in
-    power-by-values (args .t1) (search needs) (c .before .before .before .before .before .passes .ensures) (args .n) (λ i. search needs) (c .before .before .before .word-by-word .ensures) (c .before .passes2 .ensures)
+    let args = c .before .before .before .before .before .before .before .before .before .args in
+    power-by-values (args .t1) (search needs) (c .before .before .before .before .before .before .before .passes .ensures) (args .n) (c .before .before .before .before .raise .ensures) (c .before .passes2 .ensures)
 
 pub power-spec : {M : Type 1} → statement M
 power-spec =
@@ -30,7 +33,8 @@ power-spec =
     (tie.spec
     slice-aggregate-passes
     passes-requires
-    word-by-word-requires
+    slice-aggregate-raise
+    raise-requires
     slice-aggregate-passes-2
     passes-requires-2
     returns)
