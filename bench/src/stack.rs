@@ -101,9 +101,7 @@ fn formulas(stack: &mut Stack) -> [usize; 4] {
 fn probe(stack: &mut Stack) -> usize {
     let mut answer = [0u64; 4];
     let place = address(&mut answer);
-    let mut depth = |words: [u64; 3]| unsafe {
-        stack.depth(raw::otterchime_probe as *const (), [words[0], words[1], words[2], place, 0, 0, 0])
-    };
+    let mut depth = |words: [u64; 3]| unsafe { stack.depth(raw::otterchime_probe as *const (), [words[0], words[1], words[2], place, 0, 0, 0]) };
     [[5, 3, 1], [3, 5, 1], [3, 3, 0], [3, 5, 1 << 63]].map(&mut depth).into_iter().max().unwrap_or(0)
 }
 

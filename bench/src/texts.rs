@@ -3,6 +3,9 @@ use crate::raw;
 
 pub const PLAN_WORDS: usize = 2561;
 
+/// Where the elements of a plan's first row begin.
+pub const FIRST_ELEMENTS: usize = 4;
+
 /// Products of two chains of length 8, 21 times: 125 nodes.
 pub fn products() -> String {
     ["x^8*x^8"; 21].join("+")

@@ -1,7 +1,7 @@
 //! Times. Library and plain Rust take turns, in batches, and the least time of a batch counts for each: what others do on the machine
 //! at the same time makes a batch longer and never shorter.
 use crate::plain::{self, Words};
-use crate::texts::{self, PLAN_WORDS};
+use crate::texts::{self, FIRST_ELEMENTS, PLAN_WORDS};
 use crate::{raw, CHAIN_WORDS};
 use std::hint::black_box;
 use std::time::{Duration, Instant};
@@ -81,11 +81,10 @@ fn compiling(what: &str, text: &str) {
 
 fn filling() {
     let mut plan = texts::plan("x^16");
-    let mut shifted: Words = std::array::from_fn(|i| plan[4 + i]);
+    let mut shifted: Words = std::array::from_fn(|i| plan[FIRST_ELEMENTS + i]);
     let (mut table, mut beside, mut answer) = (vec![0; 4096], vec![0; 4096], [0; 4]);
-    let mut fill = |table: &mut [u64]| unsafe {
-        raw::otterchime_fill(plan.as_mut_ptr(), plan.len(), table.as_mut_ptr(), table.len(), u64::MAX, &mut answer)
-    };
+    let mut fill =
+        |table: &mut [u64]| unsafe { raw::otterchime_fill(plan.as_mut_ptr(), plan.len(), table.as_mut_ptr(), table.len(), u64::MAX, &mut answer) };
     fill(&mut table);
     plain::fill(&mut shifted, &mut beside);
     assert_eq!(table, beside);
