@@ -73,9 +73,9 @@ fn coefficients(stack: &mut Stack) -> usize {
     (0..=18).map(&mut depth).max().unwrap_or(0)
 }
 
-/// Compiling, filling, cost and soundness, over the same texts.
-fn formulas(stack: &mut Stack) -> [usize; 4] {
-    let mut deepest = [0; 4];
+/// Compiling, cost, soundness and filling, over the same texts, and compiling without the reader's brackets.
+fn formulas(stack: &mut Stack) -> [usize; 5] {
+    let mut deepest = [0; 5];
     for mut text in texts::deep() {
         let (mut plan, mut table, mut answer) = (vec![0u64; PLAN_WORDS], vec![0u64; 64], [0u64; 4]);
         let (start, lent, room) = (plan.as_mut_ptr() as u64, plan.len() as u64, table.len() as u64);
@@ -83,9 +83,12 @@ fn formulas(stack: &mut Stack) -> [usize; 4] {
         let compile = [text.as_mut_ptr() as u64, text.len() as u64, 3, 5, start, lent, answered];
         let fill = [start, lent, table.as_mut_ptr() as u64, room, u64::MAX, answered, 0];
         let read = [start, lent, answered, 0, 0, 0, 0];
+        let bracket = text.contains('(');
+        let compiled = unsafe { stack.depth(raw::otterchime_compile as *const (), compile) };
         let depths = unsafe {
             [
-                stack.depth(raw::otterchime_compile as *const (), compile),
+                compiled,
+                if bracket { 0 } else { compiled },
                 stack.depth(raw::otterchime_cost as *const (), read),
                 stack.depth(raw::otterchime_sound as *const (), read),
                 stack.depth(raw::otterchime_fill as *const (), fill),
@@ -108,12 +111,13 @@ fn probe(stack: &mut Stack) -> usize {
 pub fn print() {
     let mut stack = Stack::new();
     println!("{:<44}{:>12}", "bytes of stack, the deepest call", "library");
-    let [compile, cost, sound, fill] = formulas(&mut stack);
+    let [compile, flat, cost, sound, fill] = formulas(&mut stack);
     let coefficients = coefficients(&mut stack);
     let probe = probe(&mut stack);
     let mut chain = |function, two| chains(&mut stack, function, two);
     let depths = [
         ("compile", compile),
+        ("compile, no bracket in the text", flat),
         ("fill", fill),
         ("cost", cost),
         ("sound", sound),

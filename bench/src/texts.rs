@@ -30,7 +30,9 @@ pub fn deep() -> Vec<String> {
         texts.push(piece.repeat(32) + "x" + &")^1".repeat(32));
         texts.push(piece.repeat(33) + "x" + &")".repeat(33));
     }
-    for text in ["x^16", "x^17", "(x+1)^16", "(x^4+x)^4", "x^8*x^8", "3^(x^16)*5^(x)", "(3^(x))^64"] {
+    for text in
+        ["x^16", "x^17", "x^8-x^8", "-x", "-x^16", "0-x", "5*x^16", "x^17-x^17*3", "(x+1)^16", "(x^4+x)^4", "x^8*x^8", "3^(x^16)*5^(x)", "(3^(x))^64"]
+    {
         texts.push(text.to_string());
     }
     texts.push(products());
