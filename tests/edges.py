@@ -12,7 +12,8 @@ line. Its value at a point is the root's, taken down the rows, where a chain has
 shifted step by step. After a filling, element j of a chain is the value that the chain from j on has at the number of
 points written. A plan's name is the line of the program's input, made from the rows. A formula is folded as a tree by
 document 01's rules: sum chains again value by value, product chains element by element. The values of a compiled plan
-are what the formula's nodes give at each x, whatever it folds to."""
+are what the formula's nodes give at each x, whatever it folds to. A job file is taken as a whole: its lines, their
+fields, and what each line prints. Its notation has > for a tab and / for a line feed."""
 import re
 from functools import cache
 from itertools import groupby, product as product_of, zip_longest
@@ -671,6 +672,83 @@ def on_grids(text):
         points = ",".join(str(value_at(words, i)) for i in range(12))
         line("grid {},{} ".format(*grid) + text,
              f"0 0 rows {words[0]} cost {plan_cost(words)} sum {checksum(words)} values {points}")
+
+
+# ---- job files
+
+HEADER = "chain-jobs\t1"
+LONGEST_LINE = 4096
+MOST_POINTS = 4096
+MOST_SHOWN = 400  # bytes that the program writes out of what one line of a job file prints
+
+
+def lines_of(file):
+    """What stands before each line feed, and the bytes after the last one if there are any."""
+    *ended, rest = file.split("\n")
+    return ended + [rest] * bool(rest)
+
+
+def is_number(field, most):
+    return re.fullmatch("0|[1-9][0-9]*", field) is not None and int(field) <= most
+
+
+def line_place(line, fields):
+    """The place at which a line with these fields is refused 11, or None. Fields are counted from 1."""
+    if len(line) > LONGEST_LINE or len(fields) != 4:
+        return 0
+    bad = [place for place, most in ((2, WORD - 1), (3, WORD - 1), (4, MOST_POINTS))
+           if not is_number(fields[place - 1], most)]
+    return bad[0] if bad else None
+
+
+def defaults_place(line):
+    fields = line.split("\t")
+    if len(line) <= LONGEST_LINE and len(fields) == 4 and "" in fields:
+        return fields.index("") + 1
+    return line_place(line, fields)
+
+
+def job_lines(number, line, defaults):
+    """The lines that a job prints, each as a list of what it has."""
+    own = line.split("\t")
+    fields = [mine or given for mine, given in zip(own, defaults)] if len(own) == 4 else own
+    place = line_place(line, fields)
+    if place is not None:
+        return [["no", number, 11, place]]
+    text, start, step, count = fields[0], *map(int, fields[1:])
+    refusal, place = min(refusals(text), default=(0, 0))
+    if refusal:
+        return [["no", number, refusal, place]]
+    nodes = formula(text)[1]
+    words = compiled_words(nodes, (start, step))
+    return ([["job", number, words[0], plan_cost(words)]]
+            + [[i, direct_value(nodes, start + i * step)] for i in range(count)])
+
+
+def run_parts(file):
+    """What each line of the file prints that prints something: the lines of it."""
+    header, *rest = lines_of(file) or [""]
+    if header != HEADER:
+        return [[["no", 0, 12, 0]]]
+    defaults, *jobs = rest or [""]
+    place = defaults_place(defaults)
+    if place is not None:
+        return [[["no", 0, 11, place]]]
+    return [job_lines(number, job, defaults.split("\t")) for number, job in enumerate(jobs, 1)]
+
+
+def shown_part(part):
+    wrote = "".join(">".join(map(str, line)) + "/" for line in part)
+    return wrote if len(wrote) <= MOST_SHOWN else f" sum {checksum(wrote.encode())} of {len(wrote)} bytes/"
+
+
+def job_file(name, printed=None):
+    """A job file in the notation of the program's input, run in one go and in uneven pieces. Where the output is known
+    otherwise, in the same notation, it must agree."""
+    file = written_out(name).translate(str.maketrans(">/", "\t\n"))
+    wrote = "".join(map(shown_part, run_parts(file)))
+    assert printed is None or printed == wrote, name
+    line(f"jobs {name}", f"{wrote}\t{wrote}")
 
 
 # ---- the cases
@@ -1726,6 +1804,64 @@ def grids():
         on_grids(text)
 
 
+def refused_headers():
+    """Anything but the header alone in the first line, and no line at all; whatever comes after it."""
+    refusal = "no>0>12>0/"
+    for file in ("{0:x}", "/", "//", "chain-jobs", "chain-jobs>", "chain-jobs/", "chain-jobs>/", "chain-jobs>2/x>0>1>3/>>>/",
+                 "chain-jobs>01/x>0>1>3/>>>/", "chain-jobs>11/x>0>1>3/>>>/", "chain-jobs>1>/x>0>1>3/>>>/",
+                 "chain-jobs 1/x>0>1>3/>>>/", "chain-jobs1/x>0>1>3/>>>/", "chain-job>1/x>0>1>3/>>>/",
+                 "Chain-jobs>1/x>0>1>3/>>>/", "chain-jobs>1 /x>0>1>3/>>>/", " chain-jobs>1/x>0>1>3/>>>/",
+                 "chain-jobs>1<13>/x>0>1>3/>>>/", "<239><187><191>chain-jobs>1/x>0>1>3/>>>/", "<0>/x>0>1>3/>>>/",
+                 "/chain-jobs>1/x>0>1>3/>>>/", "x>0>1>3/>>>/", "chain-jobs>1{4084:1}/x>0>1>3/>>>/",
+                 "chain-jobs>1{4085:1}/x>0>1>3/>>>/", "chain-jobs>1{4086:1}/x>0>1>3/>>>/", "chain-jobs>1{4085:1}",
+                 "{4097:c}"):
+        job_file(file, refusal)
+
+
+def refused_defaults():
+    """A defaults line that is absent, has not four fields, an empty field or a bad number; no job is printed then."""
+    for defaults, place in (("", 0), ("/>>>", 0), ("x", 0), ("x>0>1", 0), ("x>0>1>3>", 0), ("x>0>1>3>4", 0), ("x>>", 0),
+                            (">>>>", 0), (">>>", 1), (">0>1>3", 1), ("x>>1>3", 2), ("x>0>>3", 3), ("x>0>1>", 4),
+                            (">>1>3", 1), ("x>>>3", 2), ("x>0>>", 3), (">01>-1>4097", 1), ("x>>-1>4097", 2),
+                            ("x>01>>4097", 3), ("x>01>-1>", 4), ("x>a>>", 3), ("2^(x)>0>>3", 3),
+                            ("x>01>1>3", 2), ("x>-1>1>3", 2), ("x>+1>1>3", 2), ("x> >1>3", 2), ("x>1x>1>3", 2),
+                            ("x>18446744073709551616>1>3", 2), ("x>{30:9}>1>3", 2), ("x>0>00>3", 3), ("x>0>1.>3", 3),
+                            ("x>0>18446744073709551616>3", 3), ("x>0>1>4097", 4), ("x>0>1>03", 4), ("x>0>1>3 ", 4),
+                            ("x>0>1>3<13>", 4), ("x>0>1>18446744073709551617", 4), ("x>a>b>c", 2), ("x>0>b>c", 3)):
+        job_file(f"chain-jobs>1/{defaults}/>>>/x>0>1>2/", f"no>0>11>{place}/")
+    for file in ("chain-jobs>1", "chain-jobs>1/", "chain-jobs>1//", "chain-jobs>1/x>0>1", "chain-jobs>1/{4091:1}>0>1>3/>>>/",
+                 "chain-jobs>1/x>{4091:1}>1>3/>>>/", "chain-jobs>1/{4097:x}", "chain-jobs>1/{4097:>}/>>>/"):
+        job_file(file, "no>0>11>0/")
+    job_file("chain-jobs>1/x>{4090:1}>1>3/>>>/", "no>0>11>2/")
+
+
+def job_files():
+    """The paper's own job file, ends with and without a line feed, and lines on both sides of each limit."""
+    paper = "chain-jobs>1/x^2>0>1>3/>>>/x+3^(x)>>>2/2^(x)>>>"
+    printed = "job>1>1>2/0>0/1>1/2>4/job>2>3>3/0>1/1>4/no>3>8>1/"
+    job_file(paper + "/", printed)
+    job_file(paper, printed)
+    job_file(paper + "//", printed + "no>4>11>0/")
+    job_file(paper + "///", printed + "no>4>11>0/no>5>11>0/")
+    job_file(paper + "<13>/", printed.replace("no>3>8>1", "no>3>11>4"))
+    for file in ("chain-jobs>1/x>0>1>3", "chain-jobs>1/x>0>1>3/", "chain-jobs>1/{4090:1}>0>1>3", "chain-jobs>1/<0>>0>1>0/"):
+        job_file(file, "")
+    for jobs in ("/", "//", ">>>", ">>>/", "/>>>", "/>>>/", "x>5>2>1", ">5>2>1/x/>>>>/>>/3*x+1>5>2>2/", "{0:x}/>>>1",
+                 ">>>0", ">>>0/>>>1/", ">>>4096", ">>>4096/>>>0", ">>>4097", ">18446744073709551615>>2", ">18446744073709551616>>2",
+                 ">>18446744073709551615>3", ">>18446744073709551616>3", ">01>>", ">>01>", ">>>01", ">a>b>c", ">>b>c", ">>>c",
+                 "x^2^3>01>>", "x^2^3>>01>", "x^2^3>>>4097", "x^2^3>>>", "2^(x)>>>0", "x<13>>>>", "x>>><13>", " >>>", ">>>3<32>",
+                 "<0>>>>", "<255>>>>", "{1024:-}>>>1", "{1025:-}>>>1", "{33:(}>>>", "18446744073709551616>>>", "x^65>>>",
+                 "x{64:+x}>>>", "x{63:+x}>>>1", "x^17>>>2", "3^(3^(x))>>>4", "x*x-x^2+7>18446744073709551615>9223372036854775808>2",
+                 "{4093:1}>>>", "{4094:1}>>>", "{4093:1}>>>/x>>>1/", "{4094:1}>>>/x>>>1/", "x>{4091:1}>1>", "x>{4092:1}>1>",
+                 "{4096:x}", "{4097:x}", "{4096:>}", "{4097:>}/", "{5000:x}/x>>>1/"):
+        job_file(f"chain-jobs>1/x^2>0>1>3/{jobs}")
+    job_file("chain-jobs>1/2^(x)>18446744073709551615>18446744073709551615>4096/>>>/x>>>2/>>>0/",
+             "no>1>8>1/job>2>1>1/0>18446744073709551615/1>18446744073709551614/no>3>8>1/")
+    job_file("chain-jobs>1/{4090:1}>0>1>3/>>>/x>>>1/", "no>1>2>1024/job>2>1>1/0>0/")
+    job_file("chain-jobs>1/x>0>1>0/>>>/>>>1/", "job>1>1>1/job>2>1>1/0>0/")
+    job_file("chain-jobs>1/3^(x)>0>1>4096/>>>/")
+
+
 if __name__ == "__main__":
     chains()
     sums()
@@ -1768,3 +1904,6 @@ if __name__ == "__main__":
     folded_on_grids()
     folded_products()
     grids()
+    refused_headers()
+    refused_defaults()
+    job_files()

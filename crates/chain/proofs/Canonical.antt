@@ -52,10 +52,6 @@ same-row w (suc n) f g same =
         ∙ ap (λ z. z % 2 ^ w) (sum-next g i ∙ add-comm (sumAt g i) (sumAt (rest g) i))
         ∙ add-same (2 ^ w) (sumAt (rest g) i) (sumAt (rest g) i) (sumAt g i) (sumAt f i) refl (sym (same i (omega arith))))
 
--- A chain of words that is its own trimmed form.
-abbrev pub Trimmed : ℕ → List ℕ → Type 0
-Trimmed w f = f ≡ trimmed 0 (words w f)
-
 pub same-trimmed : (w n : ℕ) (f g : List ℕ) → length f ≤ suc n → length g ≤ suc n
     → ((i : ℕ) → i ≤ n → sumAt f i % 2 ^ w ≡ sumAt g i % 2 ^ w) → trimmed 0 (words w f) ≡ trimmed 0 (words w g)
 same-trimmed w n f g p q same =
@@ -63,8 +59,8 @@ same-trimmed w n f g p q same =
     ∙ ap (λ h. trimmed 0 h) (same-row w (suc n) f g (λ i h. same i (le-of-suc-le-suc h)))
     ∙ trimmed-row n (words w g) (rw (length-map g (λ a. a % 2 ^ w)) q)
 
--- Canonicity.
-pub canonical : (w : ℕ) (f g : List ℕ) → Trimmed w f → Trimmed w g → length f ≤ 17 → length g ≤ 17
+-- Canonicity, of chains of words that are their own trimmed forms.
+pub canonical : (w : ℕ) (f g : List ℕ) → f ≡ trimmed 0 (words w f) → g ≡ trimmed 0 (words w g) → length f ≤ 17 → length g ≤ 17
     → (f ≡ g) ↔ ((i : ℕ) → i ≤ 16 → sumAt f i % 2 ^ w ≡ sumAt g i % 2 ^ w)
 canonical w f g tf tg p q =
     (λ e i h. ap (λ c. sumAt c i % 2 ^ w) e, λ same. tf ∙ same-trimmed w 16 f g p q same ∙ sym tg)

@@ -40,13 +40,10 @@ from-coefficients-unique a r s = both-are
 
 -- ---- words past the given length are not read
 -- The two arrays hold the same words up to the length k.
-abbrev pub Agree : List ℕ → List ℕ → ℕ → Type 0
-Agree f there k = take (k + 1) f ≡ take (k + 1) there
-
-given-same : (f there : List ℕ) (k : ℕ) → Agree f there k → given f k ≡ given there k
+given-same : (f there : List ℕ) (k : ℕ) → take (k + 1) f ≡ take (k + 1) there → given f k ≡ given there k
 given-same f there k e = ap (λ h. trimmed 0 h) e
 
-module _ (w : ℕ) (f f′ : List ℕ) (k : ℕ) (same : Agree f f′ k) where
+module _ (w : ℕ) (f f′ : List ℕ) (k : ℕ) (same : take (k + 1) f ≡ take (k + 1) f′) where
   pub trim-reads : trimOutcome f k ≡ trimOutcome f′ k
   trim-reads = ap (λ h. unlessLong k (chain h)) (given-same f f′ k same)
 
@@ -56,7 +53,7 @@ module _ (w : ℕ) (f f′ : List ℕ) (k : ℕ) (same : Agree f f′ k) where
   pub value-reads : valueAnswer f k ≡ valueAnswer f′ k
   value-reads = rw (given-same f f′ k same)
 
-  module _ (g g′ : List ℕ) (l : ℕ) (too : Agree g g′ l) where
+  module _ (g g′ : List ℕ) (l : ℕ) (too : take (l + 1) g ≡ take (l + 1) g′) where
     pub sum-reads : sumOutcome w f k g l ≡ sumOutcome w f′ k g′ l
     sum-reads =
         ap₂ (λ h j. unlessLong k (unlessLong l (chain (trimmed 0 (words w (SumChain.sum h j)))))) (given-same f f′ k same) (given-same g g′ l too)

@@ -5,22 +5,23 @@ use Prim.Native.Nat.{ℕ, suc, _+_, _-_, _*_, _≤_}
 use native.Mathlib.Omega.{arith}
 use lib.ListN.{length, take, drop, set, replicate, length-append, length-drop, take-append-drop}
 use lib.Seq.{take-at, drop-at, drop-length, length-take-le}
+use Rattle.plan.specs.Measures.{planLength, rowLength, rowsLength, mostRows, rowStart}
 use Rattle.plan.proofs.RowLaws.{part, partPut, part-put}
 use Rattle.formula.specs.Tree.{Tree}
-use Rattle.formula.specs.Words.{treeWords}
+use Rattle.formula.specs.Words.{treeWords, treeLength}
 use Rattle.formula.specs.Refusals as Refusals
 use Rattle.formula.specs.Refusals.{Accepted, Reading}
 use Rattle.formula.specs.declared.ReadAnswer.{ReadAnswer}
-use Rattle.formula.proofs.Answers.{accepted-fits}
-use Rattle.formula.proofs.Judging.{fault-number}
-use Rattle.formula.proofs.Written.{length-tree-words}
-use Rattle.folding.specs.Folded.{Folded}
-use Rattle.folding.specs.Folding.{fold}
-use Rattle.folding.specs.Layout.{rowCount, rowsFrom, wordsOf, planWords}
-use Rattle.folding.proofs.FoldShape.{accepted-foldable, foldable-part, fold-formed}
-use Rattle.folding.proofs.ReadBack.{length-plan}
-use Rattle.compile.specs.Compiling.{Compiling, refused, accepted}
-use Rattle.compile.specs.Machine.{Compilable, Written, FoldedAt}
+use Rattle.formula_scan.proofs.Answers.{accepted-fits}
+use Rattle.formula_scan.proofs.Judging.{fault-number}
+use Rattle.formula_scan.proofs.Written.{length-tree-words}
+use Rattle.fold.specs.Folded.{Folded}
+use Rattle.fold.specs.Folding.{fold}
+use Rattle.fold.specs.Layout.{rowCount, rowsFrom, wordsOf, planWords}
+use Rattle.fold.proofs.FoldShape.{accepted-foldable, foldable-part, fold-formed}
+use Rattle.fold.proofs.ReadBack.{length-plan}
+use Rattle.fold.specs.Compiling.{Compiling, refused, accepted}
+use Rattle.compile.specs.Machine.{Compilable, Written, FoldedAt, treeStart}
 use Rattle.compile.proofs.Finishing.{part-part}
 
 -- ---- parts of a plan that is long enough
@@ -28,24 +29,31 @@ length-part : (i n : ℕ) (l : List ℕ) → i ≤ n → n ≤ length l → leng
 length-part i n l h long = length-take-le (n - i) (drop i l) (rw (length-drop i l) (omega arith))
 
 -- ---- the whole plan
-pub assembled : (start step : ℕ) (p q : List ℕ) (t : Tree) (rows : ℕ) → 2561 ≤ length p → length q ≡ length p → FoldedAt start step p t q rows
-    → {cleared : List ℕ} → cleared ≡ replicate (length (part (1 + 20 * rows) 2561 (set q 0 rows))) 0
-    → partPut (1 + 20 * rows) 2561 (set q 0 rows) cleared ≡ planWords (fold 64 start step t) ++ drop 2561 p
-assembled start step p [] t rows long same folded e = absurd (omega arith)
-assembled start step p (a ∷ q) t rows long same folded {cleared} e =
-    part-put (1 + 20 * rows) 2561 (rows ∷ q) cleared (omega (arith, folded .few))
+behind-rows : (start step : ℕ) (p q : List ℕ) (t : Tree) (rows : ℕ) → planLength ≤ length p → length q ≡ length p → FoldedAt start step p t q rows
+    → {cleared : List ℕ} → cleared ≡ replicate (length (part (rowStart rows) planLength (set q 0 rows))) 0
+    → partPut (rowStart rows) planLength (set q 0 rows) cleared ≡ planWords (fold 64 start step t) ++ drop planLength p
+behind-rows start step p [] t rows long same folded e = absurd (omega arith)
+behind-rows start step p (a ∷ q) t rows long same folded {cleared} e =
+    part-put (rowStart rows) planLength (rows ∷ q) cleared (omega (arith, folded .few))
     ∙ ap₂ _++_ (ap₂ _++_ front (e ∙ ap (λ n. replicate n 0) count)) (folded .behind)
   where
-    front : take (1 + 20 * rows) (rows ∷ q) ≡ rowCount (fold 64 start step t) ∷ wordsOf (rowsFrom 0 (fold 64 start step t))
+    front : take (rowStart rows) (rows ∷ q) ≡ rowCount (fold 64 start step t) ∷ wordsOf (rowsFrom 0 (fold 64 start step t))
     front = ap (λ n. take n (rows ∷ q)) next ∙ ap₂ {C = List ℕ} _∷_ (folded .rows) (folded .stands)
       where
-        next : 1 + 20 * rows ≡ suc (20 * rows)
+        next : rowStart rows ≡ suc (rowLength * rows)
         next = omega arith
 
-    count : length (part (1 + 20 * rows) 2561 (rows ∷ q)) ≡ 2560 - 20 * rowCount (fold 64 start step t)
+    count : length (part (rowStart rows) planLength (rows ∷ q)) ≡ rowsLength - rowLength * rowCount (fold 64 start step t)
     count =
-        length-part (1 + 20 * rows) 2561 (rows ∷ q) (omega (arith, folded .few)) (omega arith)
+        length-part (rowStart rows) planLength (rows ∷ q) (omega (arith, folded .few)) (omega arith)
         ∙ omega (arith, folded .rows)
+
+pub assembled : (start step : ℕ) (p q : List ℕ) (t : Tree) (rows : ℕ) → planLength ≤ length p → length q ≡ length p → FoldedAt start step p t q rows
+    → {at : ℕ} {cleared : List ℕ} → at ≡ rowStart rows → cleared ≡ replicate (length (part at planLength (set q 0 rows))) 0
+    → partPut at planLength (set q 0 rows) cleared ≡ planWords (fold 64 start step t) ++ drop planLength p
+assembled start step p q t rows long same folded {at} {cleared} place e =
+    ap (λ k. partPut k planLength (set q 0 rows) cleared) place
+    ∙ behind-rows start step p q t rows long same folded (e ∙ ap (λ k. replicate (length (part k planLength (set q 0 rows))) 0) place)
 
 -- ---- an accepted tree folds
 pub accepted-compilable : {s : List ℕ} {t : Tree} (start step : ℕ) → Accepted 64 s t → Compilable start step t
@@ -62,56 +70,56 @@ part-back : (i n : ℕ) (l : List ℕ) → partPut i n l (part i n l) ≡ l
 part-back i n l = ap (λ f. take i l ++ f) (take-append-drop (n - i) (drop i l)) ∙ take-append-drop i l
 
 -- 257 new words take the place of the last 257 of the plan.
-module _ (p : List ℕ) (long : 2561 ≤ length p) (new : List ℕ) (count : length new ≡ 257) where
-  put-there : take 257 (drop 2304 (partPut 2304 2561 p new)) ≡ new
+module _ (p : List ℕ) (long : planLength ≤ length p) (new : List ℕ) (count : length new ≡ treeLength) where
+  put-there : take treeLength (drop treeStart (partPut treeStart planLength p new)) ≡ new
   put-there =
-      ap (take 257) (drop-at (take 2304 p) (new ++ drop 257 (drop 2304 p)) 2304 (length-take-le 2304 p (omega arith)))
-      ∙ take-at new (drop 257 (drop 2304 p)) 257 count
+      ap (take treeLength) (drop-at (take treeStart p) (new ++ drop treeLength (drop treeStart p)) treeStart (length-take-le treeStart p (omega arith)))
+      ∙ take-at new (drop treeLength (drop treeStart p)) treeLength count
 
-  whole : partPut 2304 2561 p new ≡ take 2304 p ++ new ++ drop 2561 p
-  whole = part-put 2304 2561 p new (omega arith)
+  whole : partPut treeStart planLength p new ≡ take treeStart p ++ new ++ drop planLength p
+  whole = part-put treeStart planLength p new (omega arith)
 
-  before : length (take 2304 p ++ new) ≡ 2561
-  before = length-append (take 2304 p) new ∙ omega (arith, length-take-le 2304 p (omega arith))
+  before : length (take treeStart p ++ new) ≡ planLength
+  before = length-append (take treeStart p) new ∙ omega (arith, length-take-le treeStart p (omega arith))
 
-  put-behind : drop 2561 (partPut 2304 2561 p new) ≡ drop 2561 p
-  put-behind = ap (drop 2561) whole ∙ drop-at (take 2304 p ++ new) (drop 2561 p) 2561 before
+  put-behind : drop planLength (partPut treeStart planLength p new) ≡ drop planLength p
+  put-behind = ap (drop planLength) whole ∙ drop-at (take treeStart p ++ new) (drop planLength p) planLength before
 
-  put-length : length (partPut 2304 2561 p new) ≡ length p
-  put-length = ap length whole ∙ length-append (take 2304 p ++ new) (drop 2561 p) ∙ omega (arith, before, length-drop 2561 p)
+  put-length : length (partPut treeStart planLength p new) ≡ length p
+  put-length = ap length whole ∙ length-append (take treeStart p ++ new) (drop planLength p) ∙ omega (arith, before, length-drop planLength p)
 
-module _ (s p : List ℕ) (long : 2561 ≤ length p) where
+module _ (s p : List ℕ) (long : planLength ≤ length p) where
   -- A refusal alters nothing.
-  pub read-refused : {lent : List ℕ} {r : ReadAnswer} (start step : ℕ) → Reading 64 s (part 2304 2561 p) r lent → (r .number ≡ 0 → ⊥)
-      → Compiling 64 s start step p (record { number = r .number; place = r .place }) (partPut 2304 2561 p lent)
-  read-refused start step (Refusals.too-short h) some = absurd (omega (arith, length-part 2304 2561 p (omega arith) long))
-  read-refused start step (Refusals.refused h R) some = subst (Compiling 64 s start step p _) (sym (part-back 2304 2561 p)) (refused long R)
+  pub read-refused : {lent : List ℕ} {r : ReadAnswer} (start step : ℕ) → Reading 64 s (part treeStart planLength p) r lent → (r .number ≡ 0 → ⊥)
+      → Compiling 64 s start step p (record { number = r .number; place = r .place }) (partPut treeStart planLength p lent)
+  read-refused start step (Refusals.too-short h) some = absurd (omega (arith, length-part treeStart planLength p (omega arith) long))
+  read-refused start step (Refusals.refused h R) some = subst (Compiling 64 s start step p _) (sym (part-back treeStart planLength p)) (refused long R)
   read-refused start step (Refusals.accepted h A) some = absurd (some refl)
 
   -- The tree of an accepted text stands in these words.
-  pub read-accepted : {lent : List ℕ} {r : ReadAnswer} → Reading 64 s (part 2304 2561 p) r lent → r .number ≡ 0
-      → (t : Tree) × Accepted 64 s t × Written (partPut 2304 2561 p lent) t
-      × (drop 2561 (partPut 2304 2561 p lent) ≡ drop 2561 p) × (length (partPut 2304 2561 p lent) ≡ length p)
-  read-accepted (Refusals.too-short h) none = absurd (omega (arith, length-part 2304 2561 p (omega arith) long))
+  pub read-accepted : {lent : List ℕ} {r : ReadAnswer} → Reading 64 s (part treeStart planLength p) r lent → r .number ≡ 0
+      → (t : Tree) × Accepted 64 s t × Written (partPut treeStart planLength p lent) t
+      × (drop planLength (partPut treeStart planLength p lent) ≡ drop planLength p) × (length (partPut treeStart planLength p lent) ≡ length p)
+  read-accepted (Refusals.too-short h) none = absurd (omega (arith, length-part treeStart planLength p (omega arith) long))
   read-accepted (Refusals.refused h R) none = absurd (omega (arith, none, fault-number (R .applies)))
   read-accepted (Refusals.accepted {t} h A) none = (t, A, put-there p long new count ∙ only, put-behind p long new count, put-length p long new count)
     where
       new : List ℕ
-      new = treeWords t ++ drop 257 (part 2304 2561 p)
+      new = treeWords t ++ drop treeLength (part treeStart planLength p)
 
-      none-behind : drop 257 (part 2304 2561 p) ≡ []
-      none-behind = ap (λ n. drop n (part 2304 2561 p)) (sym (length-part 2304 2561 p (omega arith) long)) ∙ drop-length (part 2304 2561 p)
+      none-behind : drop treeLength (part treeStart planLength p) ≡ []
+      none-behind = ap (λ n. drop n (part treeStart planLength p)) (sym (length-part treeStart planLength p (omega arith) long)) ∙ drop-length (part treeStart planLength p)
 
       only : new ≡ treeWords t
       only = ap (λ l. treeWords t ++ l) none-behind ∙ append-nil (treeWords t)
 
-      count : length new ≡ 257
+      count : length new ≡ treeLength
       count = ap length only ∙ length-tree-words t (accepted-fits A .2)
 
   -- What is folded from that tree is the plan of the text.
-  pub read-compiled : {lent q : List ℕ} {r : ReadAnswer} (start step : ℕ) → Reading 64 s (part 2304 2561 p) r lent → r .number ≡ 0
-      → ((t : Tree) → Compilable start step t → Written (partPut 2304 2561 p lent) t
-      → q ≡ planWords (fold 64 start step t) ++ drop 2561 (partPut 2304 2561 p lent))
+  pub read-compiled : {lent q : List ℕ} {r : ReadAnswer} (start step : ℕ) → Reading 64 s (part treeStart planLength p) r lent → r .number ≡ 0
+      → ((t : Tree) → Compilable start step t → Written (partPut treeStart planLength p lent) t
+      → q ≡ planWords (fold 64 start step t) ++ drop planLength (partPut treeStart planLength p lent))
       → Compiling 64 s start step p (record { number = 0; place = 0 }) q
   read-compiled start step reading none folded =
       let (t, A, written, behind, _) = read-accepted reading none in
@@ -120,6 +128,6 @@ module _ (s p : List ℕ) (long : 2561 ≤ length p) where
       (accepted long A)
 
 -- The plan stays as long as it is.
-pub whole-length : (a : Folded) (p : List ℕ) → rowCount a ≤ 128 → 2561 ≤ length p → length (planWords a ++ drop 2561 p) ≡ length p
+pub whole-length : (a : Folded) (p : List ℕ) → rowCount a ≤ mostRows → planLength ≤ length p → length (planWords a ++ drop planLength p) ≡ length p
 whole-length a p few long =
-    length-append (planWords a) (drop 2561 p) ∙ ap₂ _+_ (length-plan a few) (length-drop 2561 p) ∙ omega arith
+    length-append (planWords a) (drop planLength p) ∙ ap₂ _+_ (length-plan a few) (length-drop planLength p) ∙ omega arith

@@ -7,13 +7,11 @@ use lib.ListN.{length, getD, length-append, List·getD-append}
 use lib.Seq.{getD-at}
 use Rattle.plan.specs.Row.{Row, kind, wordA}
 use Rattle.plan.specs.Plan as Plan
-use Rattle.plan.proofs.RowLaws.{word-at}
-use Rattle.plan.proofs.SoundLaws.{kind-at}
-use Rattle.folding.specs.Folded.{Folded, constant, sumChain, productChain, sumRow, differenceRow, productRow, minusRow, powerRow, raiseRow}
-use Rattle.folding.specs.Layout.{rowCount, rowWords, rootRow, rowsFrom}
-use Rattle.folding.proofs.ReadBack.{rows-of, some-rows}
-use Rattle.rows.proofs.Stood.{row-stands}
-use Rattle.operands.specs.Operands.{One}
+use Rattle.fold.specs.Folded.{Folded, constant, sumChain, productChain, sumRow, differenceRow, productRow, minusRow, powerRow, raiseRow}
+use Rattle.fold.specs.Layout.{rowCount, rowWords, rootRow, rowsFrom}
+use Rattle.fold.proofs.ReadBack.{rows-of, some-rows}
+use Rattle.fold_rows.proofs.Stood.{row-stands}
+use Rattle.fold_operands.specs.Operands.{One}
 
 module _ (p : List ℕ) (n : ℕ) where
   -- Rows that stand from row n on, one by one.
@@ -93,20 +91,20 @@ reached-root p first end (a, operand) = record {
 
 module _ (p : List ℕ) (first r : ℕ) (reached : Reached p first r) where
   -- An operator's row leads on to an earlier one.
-  pub reached-next : 2 < getD p (1 + 20 * r) 0 → (getD p (1 + 20 * r + 1) 0 < r) × Reached p first (getD p (1 + 20 * r + 1) 0)
-  reached-next high = go (root p first (reached .tree) r (reached .rows) (reached .last))
+  pub reached-next : {k a : ℕ} → k ≡ kind (Plan.row p r) → a ≡ wordA (Plan.row p r) → 2 < k → (a < r) × Reached p first a
+  reached-next {k} {a} ek ea high = go (root p first (reached .tree) r (reached .rows) (reached .last))
     where
-      go : Root p first r (reached .tree) → (getD p (1 + 20 * r + 1) 0 < r) × Reached p first (getD p (1 + 20 * r + 1) 0)
-      go (leaf low one) = absurd (omega (arith, high, low, kind-at p r))
+      go : Root p first r (reached .tree) → (a < r) × Reached p first a
+      go (leaf low one) = absurd (omega (arith, high, low, ek))
       go (operator left more rows named fewer) = (
-        omega (arith, named, fewer, reached .last, word-at p r 1 (omega arith)),
-        record { tree = left; rows = rows; last = omega (arith, named, word-at p r 1 (omega arith)) },
+        omega (arith, named, fewer, reached .last, ea),
+        record { tree = left; rows = rows; last = omega (arith, named, ea) },
       )
 
   -- Any other row is the tree's only one.
-  pub reached-leaf : getD p (1 + 20 * r) 0 ≤ 2 → r ≡ first
-  reached-leaf low = go (root p first (reached .tree) r (reached .rows) (reached .last))
+  pub reached-leaf : {k : ℕ} → k ≡ kind (Plan.row p r) → k ≤ 2 → r ≡ first
+  reached-leaf ek low = go (root p first (reached .tree) r (reached .rows) (reached .last))
     where
       go : Root p first r (reached .tree) → r ≡ first
       go (leaf kind one) = omega (arith, one, reached .last)
-      go (operator left high rows named fewer) = absurd (omega (arith, low, high, kind-at p r))
+      go (operator left high rows named fewer) = absurd (omega (arith, low, high, ek))

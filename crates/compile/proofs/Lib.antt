@@ -2,7 +2,6 @@
 pub mod Finding
 pub mod Finishing
 pub mod Stacking
-pub mod Promise
 pub mod Pairs
 pub mod Nodes
 pub mod Turns

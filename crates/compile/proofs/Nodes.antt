@@ -8,16 +8,17 @@ use native.Mathlib.Omega.{arith}
 use lib.Dec.{eqb}
 use lib.ListN.{length, drop}
 use borrow.Author.Tests.{eqb-true, eqb-false}
+use Rattle.plan.specs.Measures.{planLength, rowStart, mostRows}
 use Rattle.chain.specs.Chain.{trimmed, withoutTrailing, withLast, words}
 use Rattle.formula.specs.Tree as Tree
 use Rattle.formula.specs.Tree.{Tree}
-use Rattle.folding.specs.Folded.{Folded, constant, ofSum, trimmedSum}
-use Rattle.folding.specs.Folding.{fold, foldMinus, foldPower}
-use Rattle.folding.specs.Layout.{rowCount}
-use Rattle.folding.specs.Shape.{WellFormed}
-use Rattle.folding.proofs.FoldShape.{minus-rows, power-rows, sum-rows, difference-rows, product-rows, raise-rows}
-use Rattle.rows.specs.Standing.{rowStart, placed}
-use Rattle.operands.specs.Operands.{Operand, Operands, One, Two, Left, Folds, FoldsBoth}
+use Rattle.fold.specs.Folded.{Folded, constant, ofSum, trimmedSum}
+use Rattle.fold.specs.Folding.{fold, foldMinus, foldPower}
+use Rattle.fold.specs.Layout.{rowCount}
+use Rattle.fold.proofs.Shape.{WellFormed}
+use Rattle.fold.proofs.FoldShape.{minus-rows, power-rows, sum-rows, difference-rows, product-rows, raise-rows}
+use Rattle.fold_rows.specs.Standing.{placed}
+use Rattle.fold_operands.specs.Operands.{Operand, Operands, One, Two, Left, Folds, FoldsBoth}
 use Rattle.compile.specs.Machine.{Finishes, Stack, Ends, FirstRow, Compilable, Working, foldBoth}
 use Rattle.compile.proofs.Finishing.{top-part, nodes-left, node-kind}
 use Rattle.compile.proofs.Finishing.{view-number, view-variable, view-minus, view-power, view-sum, view-difference, view-product, view-raise}
@@ -43,10 +44,10 @@ one-row [] = refl
 one-row (a ∷ []) = refl
 one-row (a ∷ b ∷ f) = refl
 
-module _ (start step : ℕ) (p : List ℕ) (end : ℕ) (long : 2561 ≤ length p) where
+module _ (start step : ℕ) (p : List ℕ) (end : ℕ) (long : planLength ≤ length p) where
   module _ {t : Tree} {more : List ℕ} {k v : ℕ} (comp : Compilable start step t) (work : Working t start step p end (k ∷ v ∷ more)) where
     -- There is room for one row more.
-    pub few-rows : end < 128
+    pub few-rows : end < mostRows
     few-rows = omega (arith, stack-rows start step p (work .done) end (work .stands), nodes-left (work .finishes), comp .few)
 
     room : rowStart end ≤ length p
@@ -192,7 +193,7 @@ module _ (start step : ℕ) (p : List ℕ) (end : ℕ) (long : 2561 ≤ length p
 
     module _ {top : ℕ} (found : FirstRow p end top) (no0 : k ≡ 0 → ⊥) (no1 : k ≡ 1 → ⊥) (no6 : k ≡ 6 → ⊥) (no7 : k ≡ 7 → ⊥) where
       -- The left operand ends where the right one begins.
-      pub below-asked : (top ≤ 128) × Ends p top
+      pub below-asked : (top ≤ mostRows) × Ends p top
       unfolding Both
       below-asked =
           let b = two-operands no0 no1 no6 no7 in

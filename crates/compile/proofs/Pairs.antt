@@ -9,9 +9,9 @@ use Rattle.chain.specs.declared.ChainAnswer.{ChainAnswer}
 use Rattle.chain.specs.Chain.{trimmed, row}
 use Rattle.chain.specs.Answer.{answered, trimOutcome}
 use Rattle.chain.proofs.Trimming.{length-trimmed-some}
-use Rattle.folding.specs.Folded.{trimmedSum}
-use Rattle.rows.specs.Standing.{withRow, placed}
-use Rattle.rows.proofs.Stood.{sum-placed}
+use Rattle.fold.specs.Folded.{trimmedSum}
+use Rattle.fold_rows.specs.Standing.{withRow, placed}
+use Rattle.fold_rows.proofs.Stood.{sum-placed}
 
 abbrev rowOf : ChainAnswer → List ℕ
 rowOf t = cond (eqb (t .length) 0) 0 1 ∷ (t .length) ∷ 0 ∷ (t .elements)

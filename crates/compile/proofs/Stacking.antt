@@ -5,16 +5,17 @@ use Prim.Native.Nat.{ℕ, _+_, _-_, _*_, _≤_}
 use native.Mathlib.Omega.{arith}
 use lib.ListN.{length, take, drop}
 use lib.Seq.{take-take}
+use Rattle.plan.specs.Measures.{rowLength, rowStart}
 use Rattle.plan.proofs.RowLaws.{slice-part}
 use Rattle.formula.specs.Tree.{Tree}
-use Rattle.folding.specs.Folded.{Folded}
-use Rattle.folding.specs.Folding.{fold}
-use Rattle.folding.specs.Layout.{rowCount, rowsFrom, wordsOf}
-use Rattle.folding.specs.Shape.{WellFormed}
-use Rattle.folding.proofs.FoldShape.{fold-rows}
-use Rattle.rows.specs.Standing.{rowStart, Stands}
-use Rattle.rows.proofs.Stood.{length-words, words-later, placed-stands, placed-before}
-use Rattle.operands.specs.Operands.{Operand, Operands, Left}
+use Rattle.fold.specs.Folded.{Folded}
+use Rattle.fold.specs.Folding.{fold}
+use Rattle.fold.specs.Layout.{rowCount, rowsFrom, wordsOf}
+use Rattle.fold.proofs.Shape.{WellFormed}
+use Rattle.fold.proofs.FoldShape.{fold-rows}
+use Rattle.fold_rows.specs.Standing.{Stands}
+use Rattle.fold_rows.proofs.Stood.{length-words, words-later, placed-stands, placed-before}
+use Rattle.fold_operands.specs.Operands.{Operand, Operands, Left}
 use Rattle.compile.specs.Machine.{Stack, Ends, FirstRow}
 use Rattle.compile.proofs.Finishing.{sumNodes}
 
@@ -45,16 +46,16 @@ same-before p q n m h same = sym (take-take n m q h) ∙ ap (take n) same ∙ ta
 operand-kept : (p q : List ℕ) (first end : ℕ) (a : Folded) → take (rowStart end) q ≡ take (rowStart end) p → Operand p first end a → Operand q first end a
 operand-kept p q first end a same operand = record { stands = stands; behind = operand .behind; formed = operand .formed }
   where
-    count : rowStart first + 20 * rowCount a - rowStart first ≡ 20 * rowCount a
+    count : rowStart first + rowLength * rowCount a - rowStart first ≡ rowLength * rowCount a
     count = omega arith
 
-    cut : (l : List ℕ) → drop (rowStart first) (take (rowStart first + 20 * rowCount a) l) ≡ take (20 * rowCount a) (drop (rowStart first) l)
-    cut l = slice-part (rowStart first) (rowStart first + 20 * rowCount a) l ∙ ap (λ k. take k (drop (rowStart first) l)) count
+    cut : (l : List ℕ) → drop (rowStart first) (take (rowStart first + rowLength * rowCount a) l) ≡ take (rowLength * rowCount a) (drop (rowStart first) l)
+    cut l = slice-part (rowStart first) (rowStart first + rowLength * rowCount a) l ∙ ap (λ k. take k (drop (rowStart first) l)) count
 
     stands : Stands q first a
     stands =
         sym (cut q)
-        ∙ ap (drop (rowStart first)) (same-before p q (rowStart first + 20 * rowCount a) (rowStart end) (omega (arith, operand .behind)) same)
+        ∙ ap (drop (rowStart first)) (same-before p q (rowStart first + rowLength * rowCount a) (rowStart end) (omega (arith, operand .behind)) same)
         ∙ cut p
         ∙ operand .stands
 
@@ -109,10 +110,10 @@ module _ (start step : ℕ) where
 
   -- ---- one tree alone stands from row 0 on
   pub stack-done : (p : List ℕ) (t : Tree) (end : ℕ) → Stack start step p (t ∷ []) end
-      → (take (20 * end) (drop 1 p) ≡ wordsOf (rowsFrom 0 (fold 64 start step t))) × (end ≡ rowCount (fold 64 start step t))
+      → (take (rowLength * end) (drop 1 p) ≡ wordsOf (rowsFrom 0 (fold 64 start step t))) × (end ≡ rowCount (fold 64 start step t))
   unfolding Stack
   stack-done p t end (first, top, none) =
-      (ap (λ k. take (20 * k) (drop 1 p)) count ∙ subst (λ n. Stands p n (fold 64 start step t)) none (top .stands), count)
+      (ap (λ k. take (rowLength * k) (drop 1 p)) count ∙ subst (λ n. Stands p n (fold 64 start step t)) none (top .stands), count)
     where
       count : end ≡ rowCount (fold 64 start step t)
       count = omega (arith, top .behind, none)

@@ -2,14 +2,16 @@
 use mathlib.Core.Path.{_≡_, refl, sym, ap, ap₂, subst, _∙_}
 use mathlib.Core.List.{List, [], _∷_}
 use Prim.Native.Nat.{ℕ, zero, suc, _+_, _-_, _*_, _≤_, _<_}
-use native.Mathlib.Nat.{zero-add, suc-add, add-zero, suc-ne-zero, not-suc-le-zero, le-of-suc-le-suc}
+use native.Mathlib.Nat.{add-zero, suc-ne-zero, not-suc-le-zero, le-of-suc-le-suc}
 use native.Mathlib.Omega.{arith}
 use lib.ListN.{length, getD, take, drop, replicate}
-use lib.Seq.{take-nil, drop-drop, take-take, take-at, getD-drop, getD-take}
+use lib.Seq.{drop-drop, take-take, take-at, getD-drop, getD-take}
+use Rattle.plan.specs.Measures.{planLength}
+use Rattle.plan.proofs.RowLaws.{drop-take}
 use Rattle.formula.specs.Tree.{Tree, nodes}
-use Rattle.formula.specs.Words.{nodeWords}
-use Rattle.formula.proofs.Written.{nodes-words}
-use Rattle.compile.specs.Machine.{Finishes, Stack, Compilable, Working, AtNode, FoldsNode, Written, FoldedAt}
+use Rattle.formula.specs.Words.{nodeWords, nodesLength, treeLength}
+use Rattle.formula_scan.proofs.Written.{nodes-words}
+use Rattle.compile.specs.Machine.{Finishes, Stack, Compilable, Working, AtNode, FoldsNode, Written, FoldedAt, nodesStart, treeStart}
 use Rattle.compile.proofs.Finishing.{finishes-all, nodes-left, none-left}
 use Rattle.compile.proofs.Stacking.{stack-rows, stack-done}
 
@@ -17,21 +19,16 @@ use Rattle.compile.proofs.Stacking.{stack-rows, stack-done}
 pub record Turn (t : Tree) (start step : ℕ) (p₀ p : List ℕ) (end n : ℕ) : Type 0 where
   pub words : List ℕ
   pub work : Working t start step p end words
-  pub left : take (length words) (drop (2305 + 2 * n) p) ≡ words
+  pub left : take (length words) (drop (nodesStart + 2 * n) p) ≡ words
   pub size : length words + 2 * n ≡ 2 * nodes t
-  pub behind : drop 2561 p ≡ drop 2561 p₀
+  pub behind : drop planLength p ≡ drop planLength p₀
 
 -- ---- at the beginning
-pub counted : (p : List ℕ) (t : Tree) → Written p t → getD p 2304 0 ≡ nodes t
-counted p t e = sym (getD-drop 2304 p 0 0) ∙ sym (getD-take 257 (drop 2304 p) 0 0 (omega arith)) ∙ ap (λ l. getD l 0 0) e
-
-drop-take : (m n : ℕ) (l : List ℕ) → drop m (take (m + n) l) ≡ take n (drop m l)
-drop-take zero n l = ap (λ k. take k l) (zero-add n)
-drop-take (suc m) n [] = ap (λ k. drop (suc m) (take k [])) (suc-add m n) ∙ sym (take-nil n)
-drop-take (suc m) n (a ∷ l) = ap (λ k. drop (suc m) (take k (a ∷ l))) (suc-add m n) ∙ drop-take m n l
+pub counted : (p : List ℕ) (t : Tree) → Written p t → getD p treeStart 0 ≡ nodes t
+counted p t e = sym (getD-drop treeStart p 0 0) ∙ sym (getD-take treeLength (drop treeStart p) 0 0 (omega arith)) ∙ ap (λ l. getD l 0 0) e
 
 module _ (start step : ℕ) (t : Tree) (comp : Compilable start step t) where
-  node-count : length (nodeWords t) ≤ 256
+  node-count : length (nodeWords t) ≤ nodesLength
   node-count = omega (arith, nodes-words t, comp .few)
 
   pub turn-first : (p : List ℕ) → Written p t → Turn t start step p p 0 0
@@ -40,10 +37,10 @@ module _ (start step : ℕ) (t : Tree) (comp : Compilable start step t) where
     words = nodeWords t;
     work = record { done = []; stands = refl; finishes = finishes-all t };
     left =
-        sym (take-take (length (nodeWords t)) 256 (drop 2305 p) node-count)
-        ∙ ap (λ l. take (length (nodeWords t)) (take 256 l)) (sym (drop-drop 1 2304 p))
-        ∙ ap (take (length (nodeWords t))) (sym (drop-take 1 256 (drop 2304 p)) ∙ ap (λ l. drop 1 l) e)
-        ∙ take-at (nodeWords t) (replicate (256 - length (nodeWords t)) 0) (length (nodeWords t)) refl;
+        sym (take-take (length (nodeWords t)) nodesLength (drop nodesStart p) node-count)
+        ∙ ap (λ l. take (length (nodeWords t)) (take nodesLength l)) (sym (drop-drop 1 treeStart p))
+        ∙ ap (take (length (nodeWords t))) (sym (drop-take 1 nodesLength (drop treeStart p)) ∙ ap (λ l. drop 1 l) e)
+        ∙ take-at (nodeWords t) (replicate (nodesLength - length (nodeWords t)) 0) (length (nodeWords t)) refl;
     size = omega (arith, nodes-words t);
     behind = refl;
   }
@@ -68,27 +65,27 @@ module _ (start step : ℕ) (t : Tree) (comp : Compilable start step t) where
 
     module _ (some : n < nodes t) where
       place : List ℕ
-      place = drop (2305 + 2 * n) p
+      place = drop (nodesStart + 2 * n) p
 
       seen : (more : List ℕ) × (turn .words ≡ getD place 0 0 ∷ getD place 1 0 ∷ more)
       unfolding place
-      seen = two-words (turn .words) (drop (2305 + 2 * n) p) (turn .left) (omega (arith, turn .size))
+      seen = two-words (turn .words) (drop (nodesStart + 2 * n) p) (turn .left) (omega (arith, turn .size))
 
-      read : turn .words ≡ getD p (2305 + 2 * n) 0 ∷ getD p (2305 + 2 * n + 1) 0 ∷ seen .0
+      read : turn .words ≡ getD p (nodesStart + 2 * n) 0 ∷ getD p (nodesStart + 2 * n + 1) 0 ∷ seen .0
       unfolding place
       read =
           seen .1
-          ∙ ap₂ (λ k v. k ∷ v ∷ seen .0) (getD-drop (2305 + 2 * n) p 0 0 ∙ ap (λ i. getD p i 0) (add-zero (2305 + 2 * n)))
-          (getD-drop (2305 + 2 * n) p 1 0)
+          ∙ ap₂ (λ k v. k ∷ v ∷ seen .0) (getD-drop (nodesStart + 2 * n) p 0 0 ∙ ap (λ i. getD p i 0) (add-zero (nodesStart + 2 * n)))
+          (getD-drop (nodesStart + 2 * n) p 1 0)
 
-      at-work : Working t start step p end (getD p (2305 + 2 * n) 0 ∷ getD p (2305 + 2 * n + 1) 0 ∷ seen .0)
+      at-work : Working t start step p end (getD p (nodesStart + 2 * n) 0 ∷ getD p (nodesStart + 2 * n + 1) 0 ∷ seen .0)
       at-work = subst (Working t start step p end) read (turn .work)
 
-      pub turn-node : AtNode start step p end (getD p (2305 + 2 * n) 0) (getD p (2305 + 2 * n + 1) 0)
+      pub turn-node : AtNode start step p end (getD p (nodesStart + 2 * n) 0) (getD p (nodesStart + 2 * n + 1) 0)
       turn-node = (t, seen .0, comp, at-work)
 
       pub turn-next : {q : List ℕ} {end′ : ℕ}
-          → FoldsNode start step p end (getD p (2305 + 2 * n) 0) (getD p (2305 + 2 * n + 1) 0) q end′
+          → FoldsNode start step p end (getD p (nodesStart + 2 * n) 0) (getD p (nodesStart + 2 * n + 1) 0) q end′
           → Turn t start step p₀ q end′ (n + 1)
       turn-next folds =
           let done = folds t (seen .0) comp at-work in
@@ -96,22 +93,22 @@ module _ (start step : ℕ) (t : Tree) (comp : Compilable start step t) where
             words = seen .0;
             work = done .0;
             left =
-                ap (take (length (seen .0))) (done .1 (2305 + 2 * (n + 1)) (omega (arith, rows-read, comp .few)) ∙ later)
-                ∙ sym (drop-take 2 (length (seen .0)) (drop (2305 + 2 * n) p))
-                ∙ ap (λ k. drop 2 (take k (drop (2305 + 2 * n) p))) (sym long)
+                ap (take (length (seen .0))) (done .1 (nodesStart + 2 * (n + 1)) (omega (arith, rows-read, comp .few)) ∙ later)
+                ∙ sym (drop-take 2 (length (seen .0)) (drop (nodesStart + 2 * n) p))
+                ∙ ap (λ k. drop 2 (take k (drop (nodesStart + 2 * n) p))) (sym long)
                 ∙ ap (λ l. drop 2 l) (turn .left ∙ read);
             size = omega (arith, turn .size, long);
-            behind = done .1 2561 (omega (arith, rows-read, comp .few)) ∙ turn .behind;
+            behind = done .1 planLength (omega (arith, rows-read, comp .few)) ∙ turn .behind;
           }
         where
           long : length (turn .words) ≡ 2 + length (seen .0)
           long = omega (arith, ap length read)
 
-          further : 2305 + 2 * (n + 1) ≡ 2305 + 2 * n + 2
+          further : nodesStart + 2 * (n + 1) ≡ nodesStart + 2 * n + 2
           further = omega arith
 
-          later : drop (2305 + 2 * (n + 1)) p ≡ drop 2 (drop (2305 + 2 * n) p)
-          later = ap (λ k. drop k p) further ∙ sym (drop-drop 2 (2305 + 2 * n) p)
+          later : drop (nodesStart + 2 * (n + 1)) p ≡ drop 2 (drop (nodesStart + 2 * n) p)
+          later = ap (λ k. drop k p) further ∙ sym (drop-drop 2 (nodesStart + 2 * n) p)
 
     -- ---- at the end
     pub turn-done : n ≡ nodes t → FoldedAt start step p₀ t p end

@@ -1,3 +1,2 @@
--- What the contracts of `compile` cite: what compiling answers and leaves, and the folding of a tree's nodes one after the other.
-pub mod Compiling
+-- What the contracts of `compile` cite: the folding of a tree's nodes one after the other. What compiling answers and leaves is in `fold`.
 pub mod Machine

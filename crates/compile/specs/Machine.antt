@@ -2,19 +2,26 @@
 use mathlib.Core.Path.{_≡_}
 use mathlib.Core.Bool.{cond}
 use mathlib.Core.List.{List, [], _∷_}
-use Prim.Native.Nat.{ℕ, _+_, _*_, _^_, _≤_, _<_}
+use Prim.Native.Nat.{ℕ, _+_, _-_, _*_, _^_, _≤_, _<_}
 use lib.Dec.{eqb}
 use lib.ListN.{take, drop}
+use Rattle.plan.specs.Measures.{planLength, rowLength, rowStart, mostRows}
 use Rattle.formula.specs.Tree as Tree
 use Rattle.formula.specs.Tree.{Tree, nodes}
 use Rattle.formula.specs.Refusals.{Part}
-use Rattle.formula.specs.Words.{treeWords}
-use Rattle.folding.specs.Folded.{Folded}
-use Rattle.folding.specs.Folding.{fold, foldSum, foldDifference, foldProduct, foldRaise}
-use Rattle.folding.specs.Layout.{rowCount, rowsFrom, wordsOf}
-use Rattle.folding.specs.Shape.{WellFormed}
-use Rattle.rows.specs.Standing.{rowStart}
-use Rattle.operands.specs.Operands.{Operand, One}
+use Rattle.formula.specs.Words.{treeWords, treeLength, mostNodes}
+use Rattle.fold.specs.Folded.{Folded}
+use Rattle.fold.specs.Folding.{fold, foldSum, foldDifference, foldProduct, foldRaise}
+use Rattle.fold.specs.Layout.{rowCount, rowsFrom, wordsOf}
+use Rattle.fold.proofs.Shape.{WellFormed}
+use Rattle.fold_operands.specs.Operands.{Operand, One}
+
+-- The tree stands in the last words of the plan's own, its nodes behind the node count.
+abbrev pub treeStart : ℕ
+treeStart = planLength - treeLength
+
+abbrev pub nodesStart : ℕ
+nodesStart = treeStart + 1
 
 -- `Finishes done words t`: with the trees `done` finished, the last one first, the node words left make the tree t. "two words a node in postfix
 -- order, left operand first": kind and word.
@@ -59,7 +66,7 @@ pub record Compilable (start step : ℕ) (t : Tree) : Type 0 where
   pub formed : (u : Tree) → Part u t → WellFormed 64 (fold 64 start step u)
   pub numbers : (place v : ℕ) → Part (Tree.number place v) t → v < 2 ^ 64
   pub exponents : (a : Tree) (place n : ℕ) → Part (Tree.literalPower a place n) t → n ≤ 64
-  pub few : nodes t ≤ 128
+  pub few : nodes t ≤ mostNodes
 
 -- Some trees are finished and stand in the plan, and the node words left make t of them.
 pub record Working (t : Tree) (start step : ℕ) (p : List ℕ) (end : ℕ) (words : List ℕ) : Type 0 where
@@ -80,10 +87,10 @@ FoldsNode start step p end kind word q end′ =
 
 -- ---- the tree's words at the end of the plan, and the folded tree at its beginning
 abbrev pub Written : List ℕ → Tree → Type 0
-Written p t = take 257 (drop 2304 p) ≡ treeWords t
+Written p t = take treeLength (drop treeStart p) ≡ treeWords t
 
 pub record FoldedAt (start step : ℕ) (p : List ℕ) (t : Tree) (q : List ℕ) (end : ℕ) : Type 0 where
   pub rows : end ≡ rowCount (fold 64 start step t)
-  pub few : end ≤ 128
-  pub stands : take (20 * end) (drop 1 q) ≡ wordsOf (rowsFrom 0 (fold 64 start step t))
-  pub behind : drop 2561 q ≡ drop 2561 p
+  pub few : end ≤ mostRows
+  pub stands : take (rowLength * end) (drop 1 q) ≡ wordsOf (rowsFrom 0 (fold 64 start step t))
+  pub behind : drop planLength q ≡ drop planLength p

@@ -2,15 +2,10 @@
 // The folding of the nodes one after the other is in `machine`, that of one operator in the crates `fold_sums`, `fold_products` and `fold_powers`.
 mod machine;
 
-ghost use Rattle.compile.specs.Compiling.{Compiling};
-
-const PLAN_WORDS: usize = 2561;
-
-// The refusal's number and place; 0 and 0 if accepted.
-pub struct CompileAnswer {
-    pub number: u64,
-    pub place: u64,
-}
+use fold::CompileAnswer;
+use machine::TREE_START;
+use plan::PLAN_WORDS;
+ghost use Rattle.fold.specs.Compiling.{Compiling};
 
 // Compiles a formula's text on a grid into a lent plan of 2,561 words. A refusal alters no word; words past the plan's own stay.
 pub fn compile(text: &[u8], start: u64, step: u64, plan: &mut [u64]) -> CompileAnswer
@@ -22,7 +17,7 @@ pub fn compile(text: &[u8], start: u64, step: u64, plan: &mut [u64]) -> CompileA
             place: 0,
         };
     }
-    let read = reading::read(text, &mut plan[2304..2561]);
+    let read = formula_read::read(text, &mut plan[TREE_START..PLAN_WORDS]);
     if read.number != 0 {
         return CompileAnswer {
             number: read.number,

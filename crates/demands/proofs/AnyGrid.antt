@@ -1,48 +1,25 @@
--- "x*x-x^2+7, any grid: constant 7": on every grid the folded tree is the constant 7, and so are the plan and all its points.
+-- "x*x-x^2+7, any grid: constant 7": on every grid the folded tree of such a text is the constant 7. What follows from it is in Expectations.antt.
 use mathlib.Core.Path.{_≡_, refl, sym, ap, ap₂, _∙_}
 use mathlib.Core.Bool.{Bool, true, false, cond, _&&_, false≢true}
 use mathlib.Core.List.{List, [], _∷_}
-use Prim.Native.Nat.{ℕ, zero, suc, _+_, _*_, _^_}
+use Prim.Native.Nat.{ℕ, _+_, _*_, _^_}
 use native.Mathlib.Nat.{pow-zero, pow-suc}
 use native.Mathlib.Omega.{arith}
 use lib.Dec.{eqb}
-use lib.ListN.{length, replicate, length-replicate}
 use Rattle.word.specs.Word as Word
 use Rattle.chain.specs.Chain as Chain
-use Rattle.chain.specs.Coefficients.{tabulated}
 use Rattle.formula.specs.Bytes.{bytes}
 use Rattle.formula.specs.Tree.{Tree, number, variable, sum, difference, product, literalPower}
 use Rattle.formula.specs.Refusals.{Accepted}
 use Rattle.formula.specs.Value.{valueFor, directValue}
-use Rattle.formula.proofs.Answers.{accepted-base}
-use Rattle.formula.proofs.Closed.{judges}
-use Rattle.formula.proofs.Verdicts.{verdict-accepted}
-use Rattle.plan.specs.Plan.{costOf}
-use Rattle.plan.specs.Row.{kindFacts}
-use Rattle.folding.specs.Folded.{Folded, constant, ofSum, trimmedSum}
-use Rattle.folding.specs.Folding.{isSum, constants, foldSum, foldDifference, foldProduct, foldPower, fold}
-use Rattle.folding.specs.Layout.{rowsFrom}
-use Rattle.folding.proofs.Rules.{picked}
-use Rattle.folding.proofs.FoldShape.{accepted-formed}
-use Rattle.folding.proofs.Equality.{equal-folds}
-use Rattle.demands.specs.Starred as Starred
-use Rattle.demands.specs.Starred.{FoldsSo}
-use Rattle.demands.proofs.Expectations.{folds-so}
-
--- ---- the text
-abbrev pub sevenText : List ℕ
-sevenText = bytes "x*x-x^2+7"
-
-abbrev pub sevenTree : Tree
-sevenTree = sum (difference (product variable variable) (literalPower variable 5 2)) (number 8 7)
-
-pub seven-accepted : Accepted 64 sevenText sevenTree
-unfolding judges
-seven-accepted = verdict-accepted sevenText refl
-
-number-accepted : Accepted 64 (bytes "7") (number 0 7)
-unfolding judges
-number-accepted = verdict-accepted (bytes "7") refl
+use Rattle.formula_scan.proofs.Answers.{accepted-base}
+use Rattle.formula_scan.proofs.Closed.{judges}
+use Rattle.formula_scan.proofs.Verdicts.{verdict-accepted}
+use Rattle.fold.specs.Folded.{Folded, constant, ofSum, trimmedSum}
+use Rattle.fold.specs.Folding.{isSum, constants, foldSum, foldDifference, foldProduct, foldPower, fold}
+use Rattle.fold.proofs.Rules.{picked}
+use Rattle.fold.proofs.FoldShape.{accepted-formed}
+use Rattle.fold.proofs.Equality.{equal-folds}
 
 -- ---- the folded tree is a constant or a sum chain
 -- x is a constant, where the step is 0, or a chain of length 1.
@@ -81,11 +58,14 @@ trimmed-is-sum f = made (Chain.trimmed 0 f)
     made (a ∷ []) = refl
     made (a ∷ b ∷ g) = refl
 
-module _ (start step : ℕ) where
-  seven-sums : isSum (fold 64 start step sevenTree) ≡ true
+-- ---- any text that means x*x-x^2+7, wherever its parts stand
+module _ {s : List ℕ} {t : Tree} (A : Accepted 64 s t) {p q : ℕ}
+    (shape : t ≡ sum (difference (product variable variable) (literalPower variable p 2)) (number q 7)) (start step : ℕ) where
+  seven-sums : isSum (fold 64 start step t) ≡ true
   unfolding fold Chain.trimmed Chain.withoutTrailing Chain.withLast
   seven-sums =
-      sum-of-sums IsSum (λ c. refl) trimmed-is-sum (foldDifference 64 square power) (constant 7)
+      ap (λ u. isSum (fold 64 start step u)) shape
+      ∙ sum-of-sums IsSum (λ c. refl) trimmed-is-sum (foldDifference 64 square power) (constant 7)
       (difference-of-sums IsSum (λ c. refl) trimmed-is-sum square power
       (product-of-line IsSum (λ c. refl) trimmed-is-sum (Word.word 64 start) (Word.word 64 step) still)
       (power-of-line IsSum (λ c. refl) trimmed-is-sum (Word.word 64 start) (Word.word 64 step) still))
@@ -106,10 +86,10 @@ module _ (start step : ℕ) where
       power : Folded
       power = foldPower 64 line 2
 
-  -- ---- its values are 7
-  pub seven-direct : (i : ℕ) → directValue 64 start step sevenTree i ≡ 7
+  -- Its values are 7.
+  seven-direct : (i : ℕ) → directValue 64 start step t i ≡ 7
   unfolding valueFor
-  seven-direct i = less-itself (Word.word 64 (start + i * step))
+  seven-direct i = ap (λ u. directValue 64 start step u i) shape ∙ less-itself (Word.word 64 (start + i * step))
     where
       less-itself : (x : ℕ) → Word.sum 64 (Word.difference 64 (Word.product 64 x x) (Word.power 64 x 2)) (Word.word 64 7) ≡ 7
       less-itself x = ap (λ y. Word.sum 64 (Word.difference 64 (Word.word 64 (x * x)) (Word.word 64 y)) (Word.word 64 7)) square ∙ rest (x * x)
@@ -120,25 +100,14 @@ module _ (start step : ℕ) where
           rest : (y : ℕ) → Word.sum 64 (Word.difference 64 (Word.word 64 y) (Word.word 64 y)) (Word.word 64 7) ≡ 7
           rest y = omega arith
 
-  -- ---- so it is the constant 7
-  pub any-grid-seven : fold 64 start step sevenTree ≡ constant 7
-  unfolding fold valueFor
-  any-grid-seven =
-      equal-folds 64 start step start step sevenTree (number 0 7) (accepted-base seven-accepted) (accepted-base number-accepted)
-      (accepted-formed 64 start step seven-accepted (omega arith)) (accepted-formed 64 start step number-accepted (omega arith))
+  -- So it folds to what "7" folds to.
+  pub folds-to-seven : fold 64 start step t ≡ constant 7
+  unfolding fold valueFor judges
+  folds-to-seven =
+      equal-folds 64 start step start step t (number 0 7) (accepted-base A) (accepted-base seven)
+      (accepted-formed 64 start step A (omega arith)) (accepted-formed 64 start step seven (omega arith))
       seven-sums refl
       .1 (λ i h. seven-direct i)
-
-  sevens : (m n : ℕ) → tabulated (directValue 64 start step sevenTree) m n ≡ replicate n 7
-  unfolding tabulated
-  sevens m zero = refl
-  sevens m (suc n) = ap₂ {C = List ℕ} _∷_ (seven-direct m) (sevens (suc m) n)
-
-  -- The plan is one row, the constant 7, and it costs nothing; its points are 7, as many as are written.
-  pub any-grid-says : (n : ℕ) → FoldsSo sevenText start step (Starred.alone (Starred.constant 7)) 0 (replicate n 7)
-  unfolding rowsFrom costOf kindFacts
-  any-grid-says n =
-      folds-so sevenText start step seven-accepted
-      (ap (λ a. rowsFrom 0 a) any-grid-seven)
-      (ap (λ a. costOf (rowsFrom 0 a)) any-grid-seven)
-      (sevens 0 (length (replicate n 7)) ∙ ap (λ k. replicate k 7) (length-replicate n 7))
+    where
+      seven : Accepted 64 (bytes "7") (number 0 7)
+      seven = verdict-accepted (bytes "7") refl

@@ -9,18 +9,23 @@ use native.Mathlib.Omega.{arith}
 use lib.Dec.{eqb, ltb}
 use lib.ListN.{length, getD, take, drop, length-map, length-take, List·getD-eq-default, List·getD-append}
 use borrow.Author.Tests.{ltb-true, ltb-false, lt-ltb, eqb-true, eqb-false}
+use Rattle.formula.specs.Words.{mostNodes}
+use Rattle.plan.specs.Measures.{planLength}
 use Rattle.word.specs.Word as Word
 use Rattle.word.proofs.Modulo.{mod-mul-mod, mul-mod-mod}
+use Rattle.formula.specs.declared.ReadAnswer.{ReadAnswer}
 use Rattle.formula.specs.Tree.{Tree, number, literalPower, nodes}
 use Rattle.formula.specs.Grammar.{Formula}
 use Rattle.formula.specs.Value.{directValue}
 use Rattle.formula.specs.Refusals.{TooDeep, StopsAt, Part, Fault, too-long, too-deep, not-grammar, number-over, exponent-number-over, exponent-over, too-many, x-in-base, even-base, Refused, Accepted}
-use Rattle.formula.specs.Readers.{Judged, refuses, accepts}
-use Rattle.formula.specs.Verdict.{Verdict}
-use Rattle.formula.proofs.Judging.{judged-stop, fault-number}
-use Rattle.formula.proofs.GrammarScan.{unambiguous, stops-only, decided}
-use Rattle.formula.proofs.Parity.{OddBases}
-use Rattle.formula.proofs.Verdicts.{Right, right-refused, right-accepted, verdict-right}
+use Rattle.formula.specs.Refusals as Refusals
+use Rattle.formula.specs.Refusals.{Reading}
+use Rattle.formula_scan.specs.Readers.{Judged, refuses, accepts}
+use Rattle.formula_scan.specs.Verdict.{Verdict}
+use Rattle.formula_scan.proofs.Judging.{judged-stop, fault-number}
+use Rattle.formula_scan.proofs.GrammarScan.{unambiguous, stops-only, decided}
+use Rattle.formula_scan.proofs.Parity.{OddBases}
+use Rattle.formula_scan.proofs.Verdicts.{Right, right-refused, right-accepted, verdict-right}
 use Rattle.chain.specs.Chain.{rest, words, withLast, withoutTrailing, trimmed, row}
 use Rattle.chain.specs.SumChain as SumChain
 use Rattle.chain.specs.SumChain.{sumAt}
@@ -33,13 +38,13 @@ use Rattle.chain.proofs.SumLaws.{sum-shift, value-sum, value-words, value-diffe
 use Rattle.chain.proofs.Shifting.{length-shift}
 use Rattle.chain.proofs.Calls.{length-joined, length-product}
 use Rattle.chain.proofs.CoefficientLaws.{value-coefficients, row-coefficients}
-use Rattle.folding.specs.Folding.{fold}
-use Rattle.folding.specs.Layout.{planWords}
-use Rattle.folding.proofs.ReadBack.{take-row}
-use Rattle.folding.proofs.Compiled as Compiled
-use Rattle.folding.specs.OneChain.{OneSum}
-use Rattle.compile.specs.declared.CompileAnswer.{CompileAnswer}
-use Rattle.compile.specs.Compiling.{Compiling, too-short, refused, accepted}
+use Rattle.fold.specs.Folding.{fold}
+use Rattle.fold.specs.Layout.{planWords}
+use Rattle.fold.proofs.ReadBack.{take-row}
+use Rattle.fold.proofs.Compiled as Compiled
+use Rattle.fold.specs.OneChain.{OneSum}
+use Rattle.fold.specs.declared.CompileAnswer.{CompileAnswer}
+use Rattle.fold.specs.Compiling.{Compiling, too-short, refused, accepted}
 use Rattle.plan.specs.Plan as Plan
 use Rattle.plan.specs.Plan.{refusal}
 use Rattle.plan.specs.Points.{rootValue}
@@ -50,17 +55,17 @@ use Rattle.plan.proofs.Sharing.{after-add, length-points, point-at, shared}
 use Rattle.plan.specs.Calls.{Call, written, planLeft, pointsOf}
 
 -- ---- compile: every input has an answer
-answer-to : (s : List ℕ) (start step : ℕ) (lent : List ℕ) (v : Verdict) → Right s v → 2561 ≤ length lent
+answer-to : (s : List ℕ) (start step : ℕ) (lent : List ℕ) (v : Verdict) → Right s v → planLength ≤ length lent
     → (r : CompileAnswer) × (q : List ℕ) × Compiling 64 s start step lent r q
 answer-to s start step lent _ (right-refused {n} {p} A) h = (_, lent, refused h A)
 answer-to s start step lent _ (right-accepted {t} A) h = (_, _, accepted h A)
 
 pub some-answer : (s : List ℕ) (start step : ℕ) (lent : List ℕ) → (r : CompileAnswer) × (q : List ℕ) × Compiling 64 s start step lent r q
-some-answer s start step lent = go (ltb (length lent) 2561) refl
+some-answer s start step lent = go (ltb (length lent) planLength) refl
   where
-    go : (b : Bool) → ltb (length lent) 2561 ≡ b → (r : CompileAnswer) × (q : List ℕ) × Compiling 64 s start step lent r q
-    go true e = (_, lent, too-short (ltb-true (length lent) 2561 e))
-    go false e = answer-to s start step lent _ (verdict-right s) (ltb-false (length lent) 2561 e)
+    go : (b : Bool) → ltb (length lent) planLength ≡ b → (r : CompileAnswer) × (q : List ℕ) × Compiling 64 s start step lent r q
+    go true e = (_, lent, too-short (ltb-true (length lent) planLength e))
+    go false e = answer-to s start step lent _ (verdict-right s) (ltb-false (length lent) planLength e)
 
 -- ---- compile: what an answer tells
 module _ {s : List ℕ} {start step : ℕ} {lent : List ℕ} where
@@ -69,14 +74,14 @@ module _ {s : List ℕ} {start step : ℕ} {lent : List ℕ} where
   kept (refused h A) some = refl
   kept (accepted h A) some = absurd (some refl)
 
-  pub first-fault : {r : CompileAnswer} {q : List ℕ} → Compiling 64 s start step lent r q → 2561 ≤ length lent → (r .number ≡ 0 → ⊥)
+  pub first-fault : {r : CompileAnswer} {q : List ℕ} → Compiling 64 s start step lent r q → planLength ≤ length lent → (r .number ≡ 0 → ⊥)
       → Refused 64 s (r .number) (r .place)
   first-fault (too-short h) whole some = absurd (omega arith)
   first-fault (refused h A) whole some = A
   first-fault (accepted h A) whole some = absurd (some refl)
 
   -- 2 and above: the plan is long enough.
-  pub long-enough : {r : CompileAnswer} {q : List ℕ} → Compiling 64 s start step lent r q → 2 ≤ r .number → 2561 ≤ length lent
+  pub long-enough : {r : CompileAnswer} {q : List ℕ} → Compiling 64 s start step lent r q → 2 ≤ r .number → planLength ≤ length lent
   long-enough (too-short h) past = absurd (omega arith)
   long-enough (refused h A) past = h
   long-enough (accepted h A) past = h
@@ -88,12 +93,18 @@ module _ {s : List ℕ} {start step : ℕ} {lent : List ℕ} where
   some-tree (accepted {t} h A) nought = (t, A)
 
   pub its-plan : {r : CompileAnswer} {q : List ℕ} {t : Tree} → Compiling 64 s start step lent r q → r .number ≡ 0 → Formula s t
-      → Accepted 64 s t × (q ≡ planWords (fold 64 start step t) ++ drop 2561 lent)
+      → Accepted 64 s t × (q ≡ planWords (fold 64 start step t) ++ drop planLength lent)
   its-plan (too-short h) nought means = absurd (omega arith)
   its-plan (refused h A) nought means = absurd (omega (arith, fault-number (A .applies)))
   its-plan (accepted h A) nought means =
       let same = unambiguous (A .means) means in
-      (subst (Accepted 64 s) same A, ap (λ t. planWords (fold 64 start step t) ++ drop 2561 lent) same)
+      (subst (Accepted 64 s) same A, ap (λ t. planWords (fold 64 start step t) ++ drop planLength lent) same)
+
+-- ---- read: a refusal leaves the lent tree
+pub tree-kept : {s lent q : List ℕ} {r : ReadAnswer} → Reading 64 s lent r q → (r .number ≡ 0 → ⊥) → q ≡ lent
+tree-kept (Refusals.too-short h) some = refl
+tree-kept (Refusals.refused h A) some = refl
+tree-kept (Refusals.accepted h A) some = absurd (some refl)
 
 -- ---- refusal 4
 module _ {s : List ℕ} where
@@ -128,7 +139,7 @@ module _ {s : List ℕ} where
       go (inl h) = omega arith
       go (inr h) = omega (arith, h .0)
 
-  pub four-only : {start step : ℕ} {lent : List ℕ} {r : CompileAnswer} {q : List ℕ} → Compiling 64 s start step lent r q → 2561 ≤ length lent
+  pub four-only : {start step : ℕ} {lent : List ℕ} {r : CompileAnswer} {q : List ℕ} → Compiling 64 s start step lent r q → planLength ≤ length lent
       → r .number ≡ 4 → (length s ≤ 1024) × ((p : ℕ) → TooDeep s p → ⊥) × ((t : Tree) → Formula s t → ⊥)
   four-only call whole e =
       let A = first-fault call whole (λ z. omega arith) in
@@ -138,7 +149,7 @@ module _ {s : List ℕ} where
 -- ---- a text within the limits has no fault
 module _ {s : List ℕ} {t : Tree} (means : Formula s t) (bytes : length s ≤ 1024) (brackets : (p : ℕ) → TooDeep s p → ⊥)
     (numbers : (p v : ℕ) → Part (number p v) t → v < 2 ^ 64) (exponents : (a : Tree) (p n : ℕ) → Part (literalPower a p n) t → n ≤ 64)
-    (size : nodes t ≤ 128) (bases : OddBases 64 t) where
+    (size : nodes t ≤ mostNodes) (bases : OddBases 64 t) where
   here : {u v : Tree} → Formula s v → Part u v → Part u t
   here M k = subst (Part _) (unambiguous M means) k
 
@@ -332,23 +343,23 @@ module _ {s : List ℕ} {start step : ℕ} {lent : List ℕ} {r : CompileAnswer}
   allows : Accepted 64 s t
   allows = its-plan call nought means .0
 
-  leaves : q ≡ planWords (fold 64 start step t) ++ drop 2561 lent
+  leaves : q ≡ planWords (fold 64 start step t) ++ drop planLength lent
   leaves = its-plan call nought means .1
 
   pub its-refusal : refusal q ≡ 0
-  its-refusal = ap refusal leaves ∙ Compiled.compiled-accepted 64 start step (omega arith) allows (drop 2561 lent)
+  its-refusal = ap refusal leaves ∙ Compiled.compiled-accepted 64 start step (omega arith) allows (drop planLength lent)
 
   pub its-word : (earlier : List Call) (table : List ℕ) (budget j : ℕ) → j < fill 64 (planLeft 64 q earlier) table budget .answer .points
       → getD (fill 64 (planLeft 64 q earlier) table budget .table) j 0 ≡ directValue 64 start step t (pointsOf 64 q earlier + j)
   its-word earlier table budget j h =
       word-written q its-refusal earlier table budget j h
       ∙ ap (λ p. rootValue 64 (planAfter 64 (pointsOf 64 q earlier + j) p)) leaves
-      ∙ Compiled.compiled-value 64 start step (omega arith) allows (drop 2561 lent) (pointsOf 64 q earlier + j)
+      ∙ Compiled.compiled-value 64 start step (omega arith) allows (drop planLength lent) (pointsOf 64 q earlier + j)
 
   pub its-words : (calls : List Call) (i : ℕ) → i < pointsOf 64 q calls → getD (written 64 q calls) i 0 ≡ directValue 64 start step t i
   its-words calls i =
       subst (λ p. i < pointsOf 64 p calls → getD (written 64 p calls) i 0 ≡ directValue 64 start step t i) (sym leaves)
-      (Compiled.compiled-points 64 start step (omega arith) allows (drop 2561 lent) calls .0 i)
+      (Compiled.compiled-points 64 start step (omega arith) allows (drop planLength lent) calls .0 i)
 
 module _ {s : List ℕ} {start step : ℕ} {lent : List ℕ} {r : CompileAnswer} {q : List ℕ} (call : Compiling 64 s start step lent r q)
     (nought : r .number ≡ 0) {t : Tree} (means : Formula s t)
@@ -364,5 +375,5 @@ module _ {s : List ℕ} {start step : ℕ} {lent : List ℕ} {r : CompileAnswer}
   unfolding EqualRows
   their-rows =
       subst₂ EqualRows (sym (leaves call nought means)) (sym (leaves call′ nought′ means′))
-      (Compiled.compiled-equal 64 start step (omega arith) (allows call nought means) (drop 2561 lent) start′ step′
-      (allows call′ nought′ means′) (drop 2561 lent′))
+      (Compiled.compiled-equal 64 start step (omega arith) (allows call nought means) (drop planLength lent) start′ step′
+      (allows call′ nought′ means′) (drop planLength lent′))

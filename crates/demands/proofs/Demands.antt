@@ -1,24 +1,29 @@
 -- The three demands as theorems about the contracts of the public calls alone, each under the sentence that it renders; then, for each call,
--- that any two answers which meet its contract are equal. The contracts are `Compiling` of compile; `fill`, `costAnswer` and `soundAnswer` of
--- plan; `answered` of an outcome and `valueAnswer` of chain; `probeAnswer` of probe. Words have 64 bits. Bridges.antt has the longer steps.
-use mathlib.Core.Path.{_≡_, refl, sym, ap, _∙_}
+-- that any two answers which meet its contract are equal. The contracts are `Compiling` of fold; `Reading` of formula; `fill`, `costAnswer`,
+-- `soundAnswer` and `refusal` of plan; `answered` of an outcome and `valueAnswer` of chain; `probeAnswer` of probe; `started`, `stepped` and
+-- `finished` of table_progress; `product` and `power` of word. Words have 64 bits. Bridges.antt has the longer steps.
+use mathlib.Core.Path.{_≡_, refl, sym, ap, subst, _∙_}
 use mathlib.Core.Bool.{true, false}
 use mathlib.Core.Logic.{_↔_, _⊎_, inl, inr}
 use mathlib.Core.List.{List, [], _++_}
 use Prim.Native.Nat.{ℕ, suc, _+_, _-_, _*_, _%_, _^_, _≤_, _<_}
 use native.Mathlib.Nat.{mul-one}
 use native.Mathlib.Omega.{arith}
-use lib.ListN.{length, getD, take, drop}
+use lib.ListN.{length, getD, take, drop, replicate}
 use lib.IntN.{pos, negℤ}
 use lib.Signed.{_<ℤ_, _≤ℤ_}
 use borrow.Author.Tests.{lt-ltb, le-ltb}
+use Rattle.plan.specs.Measures.{planLength}
 use Rattle.word.specs.Word as Word
+use Rattle.word.proofs.Unique as WordPromises
+use Rattle.word.proofs.Unique.{both-are}
+use Rattle.formula.specs.declared.ReadAnswer.{ReadAnswer}
 use Rattle.formula.specs.Tree.{Tree}
 use Rattle.formula.specs.Grammar.{Formula}
 use Rattle.formula.specs.Value.{directValue}
-use Rattle.formula.specs.Refusals.{count, TooDeep, StopsAt, Fault, too-long, too-deep, not-grammar, Refused, Accepted}
-use Rattle.formula.proofs.Answers.{accepted-fits, accepted-base}
-use Rattle.formula.proofs.GrammarScan.{unambiguous, decided}
+use Rattle.formula.specs.Refusals.{count, TooDeep, StopsAt, Fault, too-long, too-deep, not-grammar, Refused, Accepted, Reading}
+use Rattle.formula_scan.proofs.Answers.{accepted-fits, accepted-base, reading-unique}
+use Rattle.formula_scan.proofs.GrammarScan.{unambiguous, decided}
 use Rattle.chain.specs.declared.ChainAnswer.{ChainAnswer}
 use Rattle.chain.specs.declared.ValueAnswer.{ValueAnswer}
 use Rattle.chain.specs.Chain as Chain
@@ -39,48 +44,59 @@ use Rattle.plan.specs.Filling.{pointCost, pointsFor, planAfter, filled, fillRef
 use Rattle.plan.proofs.Accepting.{refused-alters-nothing}
 use Rattle.plan.proofs.Sharing as Sharing
 use Rattle.plan.specs.Calls.{Call, planLeft, pointsOf, written}
-use Rattle.folding.specs.Folding.{fold}
-use Rattle.folding.specs.Layout.{planWords}
-use Rattle.folding.proofs.Compiled as Compiled
-use Rattle.folding.specs.OneChain.{OneSum}
-use Rattle.compile.specs.declared.CompileAnswer.{CompileAnswer}
-use Rattle.compile.specs.Compiling.{Compiling, too-short, refused, accepted}
-use Rattle.compile.proofs.Promise.{compiling-unique}
+use Rattle.fold.specs.Folding.{fold}
+use Rattle.fold.specs.Layout.{planWords}
+use Rattle.fold.proofs.Compiled as Compiled
+use Rattle.fold.specs.OneChain.{OneSum}
+use Rattle.fold.specs.declared.CompileAnswer.{CompileAnswer}
+use Rattle.fold.specs.Compiling.{Compiling, too-short, refused, accepted}
+use Rattle.fold.proofs.Promise.{compiling-unique}
 use Rattle.probe.specs.declared.ProbeAnswer.{ProbeAnswer}
 use Rattle.probe.specs.declared.Verdict.the-variants.{NoVerdict}
 use Rattle.probe.specs.Probe as ProbeSpec
 use Rattle.probe.specs.Probe.{half, offset, verdict, verdictWord, ahead, behind, within, probeAnswer}
 use Rattle.probe.proofs.Laws as Probe
-use Rattle.fields.specs.Parts.{lineFeed}
-use Rattle.job.specs.declared.Progress.{Progress}
-use Rattle.job.specs.Run.{run}
-use Rattle.job.specs.Steps.{started, Buffers, ready, stepped, finished}
-use Rattle.job.proofs.Readiness.{refused-step, refused-end}
-use Rattle.job.proofs.Adding.{adds-up}
-use Rattle.job.specs.Runs.{Runs}
-use Rattle.job.proofs.GoingOn.{every-input-runs}
-use Rattle.job.specs.Runs.{Roomy}
+use Rattle.table.specs.Parts.{lineFeed}
+use Rattle.table.specs.Run.{RunPrints}
+use Rattle.table_progress.specs.declared.Progress.{Progress}
+use Rattle.table_progress.specs.declared.Stepped.{Stepped}
+use Rattle.table_progress.specs.Run.{run}
+use Rattle.table_progress.specs.Steps.{started, Buffers, stepped, finished}
+use Rattle.table_progress.specs.Runs.{Roomy, Runs}
+use Rattle.table_progress.proofs.Readiness.{step-undone, end-undone}
+use Rattle.table_progress.proofs.Adding.{adds-up}
+use Rattle.table_progress.proofs.GoingOn.{every-input-runs}
+use Rattle.table_progress.proofs.RunPrints.{run-prints, run-only}
+use Rattle.table_progress.proofs.Uniqueness as StepPromises
 use Rattle.demands.specs.Demanded.{noChain, Allowed, valueOf, Answers}
 use Rattle.demands.proofs.Bridges as Bridges
 
 -- ======== Demand 1: "Formulas, job lines, plans and lent tables may hold anything at all. The library answers or refuses, with the number and
 -- place that document 01 fixes, at the first check that applies. A refused call changes nothing it was lent."
 -- ---- job files
--- Whatever bytes a job file holds, `run` says what it prints; all that accepted calls write over it, however it is cut, is that.
-pub job-file-prints : {line defaults input output : List ℕ} → Runs started line defaults input output → output ≡ run input
-job-file-prints = adds-up
+-- Whatever bytes a job file holds, `RunPrints` says what it prints, by 01's sentences alone: every input has an output, and no second one.
+pub job-file-output : (input : List ℕ) → (output : List ℕ) × RunPrints input output
+job-file-output input = (run input, run-prints input)
 
--- With buffers that are long enough, calls over it come to its end.
+pub job-file-unique : (input : List ℕ) {output output′ : List ℕ} → RunPrints input output → RunPrints input output′ → output ≡ output′
+job-file-unique input A B = both-are (run-only input A) (run-only input B)
+
+-- All that accepted calls write over it, however it is cut, is that.
+pub job-file-prints : {line defaults input output : List ℕ} → Runs started line defaults input output → RunPrints input output
+job-file-prints {input = input} runs = subst (RunPrints input) (sym (adds-up runs)) (run-prints input)
+
+-- With buffers that are long enough, calls over it come to its end, and have then written that.
 pub job-file-runs : {plan table out : List ℕ} → Roomy plan table out → (line defaults input : List ℕ)
-    → 4097 ≤ length line → 4096 ≤ length defaults → count lineFeed input < 2 ^ 64 - 1 → Runs started line defaults input (run input)
-job-file-runs roomy = every-input-runs roomy
+    → 4097 ≤ length line → 4096 ≤ length defaults → count lineFeed input < 2 ^ 64 - 1
+    → (output : List ℕ) × RunPrints input output × Runs started line defaults input output
+job-file-runs roomy line defaults input h k few = (run input, run-prints input, every-input-runs roomy line defaults input h k few)
 
--- A call that is refused changes nothing it was lent.
-pub refused-step-keeps : (p : Progress) (input : List ℕ) (b : Buffers) → ready p b ≡ false → stepped p input b .buffers ≡ b
-refused-step-keeps p input b e = ap (λ o. o .buffers) (refused-step p input b e)
+-- "A refused call changes nothing it was lent": a step, and the end of the input, that are not done.
+pub refused-step-keeps : (p : Progress) (input : List ℕ) (b : Buffers) → stepped p input b .answer .ok ≡ false → stepped p input b .buffers ≡ b
+refused-step-keeps p input b undone = ap (λ o. o .buffers) (step-undone p input b undone)
 
-pub refused-end-keeps : (p : Progress) (b : Buffers) → ready p b ≡ false → finished p b .buffers ≡ b
-refused-end-keeps p b e = ap (λ o. o .buffers) (refused-end p b e)
+pub refused-end-keeps : (p : Progress) (b : Buffers) → finished p b .answer .ok ≡ false → finished p b .buffers ≡ b
+refused-end-keeps p b undone = ap (λ o. o .buffers) (end-undone p b undone)
 
 -- ---- compile
 -- Whatever the text, the grid and the lent plan hold, there is an answer.
@@ -89,17 +105,17 @@ compile-answers = Bridges.some-answer
 
 module _ {s : List ℕ} {start step : ℕ} {lent : List ℕ} {r : CompileAnswer} {q : List ℕ} (call : Compiling 64 s start step lent r q) where
   -- "1: plan shorter than 2,561 words", ahead of whatever is wrong with the text.
-  pub compile-short : length lent < 2561 → r ≡ record { number = 1; place = 0 }
+  pub compile-short : length lent < planLength → r ≡ record { number = 1; place = 0 }
   compile-short h = compiling-unique call (too-short h) .0
 
   -- "the first number that applies": where some of 2 to 8 apply to the text, the answer is one that does, at its leftmost place, and no
   -- smaller number applies.
-  pub compile-first : 2561 ≤ length lent → {n p : ℕ} → Fault 64 s n p → Refused 64 s (r .number) (r .place)
+  pub compile-first : planLength ≤ length lent → {n p : ℕ} → Fault 64 s n p → Refused 64 s (r .number) (r .place)
   compile-first whole {n} {p} fault =
       Bridges.first-fault call whole (λ nought. let (t, A) = Bridges.some-tree call nought in A .faultless n p fault)
 
   -- "An accepted call answers number 0, place 0": where none applies, the call is accepted.
-  pub compile-accepts : 2561 ≤ length lent → ((n p : ℕ) → Fault 64 s n p → ⊥) → r ≡ record { number = 0; place = 0 }
+  pub compile-accepts : planLength ≤ length lent → ((n p : ℕ) → Fault 64 s n p → ⊥) → r ≡ record { number = 0; place = 0 }
   compile-accepts whole none = go (decided s)
     where
       go : ((t : Tree) × Formula s t) ⊎ ((p : ℕ) × StopsAt s p) → r ≡ record { number = 0; place = 0 }
@@ -110,29 +126,35 @@ module _ {s : List ℕ} {start step : ℕ} {lent : List ℕ} {r : CompileAnswer}
   pub refused-compile-keeps : (r .number ≡ 0 → ⊥) → q ≡ lent
   refused-compile-keeps = Bridges.kept call
 
+-- ---- read: 1 for a lent tree under 257 words, then 2 to 8, as `Reading` says. "A refused call changes nothing it was lent."
+pub refused-read-keeps : {s lent q : List ℕ} {r : ReadAnswer} → Reading 64 s lent r q → (r .number ≡ 0 → ⊥) → q ≡ lent
+refused-read-keeps = Bridges.tree-kept
+
 -- ---- fill, cost and sound, whatever plan and table hold. "1: plan shorter than 2,561 words", ahead of 9. `fillRefused` is "0 points and 0
 -- spent", with table and plan as they were.
-pub plan-short : (p table : List ℕ) (budget : ℕ) → length p < 2561
+pub plan-short : (p table : List ℕ) (budget : ℕ) → length p < planLength
     → (fill 64 p table budget ≡ fillRefused 1 p table)
     × (costAnswer p ≡ record { number = 1; place = 0; cost = 0 }) × (soundAnswer p ≡ record { number = 1; place = 0 })
 unfolding fill
-plan-short p table budget short = rw (lt-ltb (length p) 2561 short) (refl, refl, refl)
+plan-short p table budget short = rw (lt-ltb (length p) planLength short) (refl, refl, refl)
 
 -- "9: plan not sound (after 1)".
-pub plan-unsound : (p table : List ℕ) (budget : ℕ) → 2561 ≤ length p → Plan.sound p ≡ false
+pub plan-unsound : (p table : List ℕ) (budget : ℕ) → planLength ≤ length p → Plan.sound p ≡ false
     → (fill 64 p table budget ≡ fillRefused 9 p table)
     × (costAnswer p ≡ record { number = 9; place = 0; cost = 0 }) × (soundAnswer p ≡ record { number = 9; place = 0 })
 unfolding fill
-plan-unsound p table budget whole unsound = rw (le-ltb (length p) 2561 whole, unsound) (refl, refl, refl)
+plan-unsound p table budget whole unsound = rw (le-ltb (length p) planLength whole, unsound) (refl, refl, refl)
 
 -- Otherwise the call is accepted: `filled` has the points, the budget spent, and all words of table and plan, by 01's filling rule.
-pub plan-sound : (p table : List ℕ) (budget : ℕ) → 2561 ≤ length p → Plan.sound p ≡ true
+pub plan-sound : (p table : List ℕ) (budget : ℕ) → planLength ≤ length p → Plan.sound p ≡ true
     → (fill 64 p table budget ≡ filled 64 (pointsFor p (length table) budget) p table)
     × (costAnswer p ≡ record { number = 0; place = 0; cost = Plan.cost p }) × (soundAnswer p ≡ record { number = 0; place = 0 })
 unfolding fill
-plan-sound p table budget whole sound = rw (le-ltb (length p) 2561 whole, sound) (refl, refl, refl)
+plan-sound p table budget whole sound = rw (le-ltb (length p) planLength whole, sound) (refl, refl, refl)
 
--- "A refused call changes nothing it was lent", for fill: neither table nor plan. No other call is lent a word that it may change.
+-- "A refused call changes nothing it was lent", for fill: neither table nor plan. Of the other calls, step, finish, compile and read are lent
+-- what they may change, each with its theorem above, and `clear` of word, which refuses nothing. An export promises of plan and table
+-- what its call does, and has an array of its own for the answer.
 pub refused-fill-keeps : (p table : List ℕ) (budget : ℕ) → (fill 64 p table budget .answer .number ≡ 0 → ⊥)
     → (fill 64 p table budget .table ≡ table) × (fill 64 p table budget .plan ≡ p)
     × (fill 64 p table budget .answer .points ≡ 0) × (fill 64 p table budget .answer .spent ≡ 0)
@@ -195,14 +217,14 @@ one-tree = unambiguous
 
 module _ {s : List ℕ} {start step : ℕ} {lent : List ℕ} {r : CompileAnswer} {q : List ℕ} (call : Compiling 64 s start step lent r q) where
   -- "no text more and no text less": accepted exactly where the grammar and the limits allow it.
-  pub accepted-exactly : 2561 ≤ length lent → (r .number ≡ 0) ↔ ((t : Tree) × Allowed s t)
+  pub accepted-exactly : planLength ≤ length lent → (r .number ≡ 0) ↔ ((t : Tree) × Allowed s t)
   accepted-exactly whole = (
     λ nought. let (t, A) = Bridges.some-tree call nought in (t, allowed A),
     λ (t, L). ap (λ a. a .number) (compile-accepts call whole (faultless L)),
   )
 
   -- "4: not in the grammar": refused 4 exactly where the grammar has no such text, and neither 2 nor 3 applies.
-  pub outside-exactly : 2561 ≤ length lent
+  pub outside-exactly : planLength ≤ length lent
       → (r .number ≡ 4) ↔ ((length s ≤ 1024) × ((p : ℕ) → TooDeep s p → ⊥) × ((t : Tree) → Formula s t → ⊥))
   outside-exactly whole = (
     λ e. Bridges.four-only call whole e,
@@ -218,7 +240,7 @@ module _ {s : List ℕ} {start step : ℕ} {lent : List ℕ} {r : CompileAnswer}
   -- "Compiling folds exactly where 01 folds, and the plan has 01's layout": the words are those of the folded tree, all 2,561 of them, and
   -- the words after these stay. Folding.antt and Layout.antt have the rules, each under 01's sentence.
   pub plan-layout : r .number ≡ 0 → {t : Tree} → Formula s t
-      → (q ≡ planWords (fold 64 start step t) ++ drop 2561 lent) × (length (planWords (fold 64 start step t)) ≡ 2561)
+      → (q ≡ planWords (fold 64 start step t) ++ drop planLength lent) × (length (planWords (fold 64 start step t)) ≡ planLength)
   plan-layout nought means =
       let (A, e) = Bridges.its-plan call nought means in
       (e, Compiled.compiled-length 64 start step (omega arith) A)
@@ -281,22 +303,23 @@ coefficients-right a h =
 
 -- ---- the probe, for every reading and every tolerance that is not refused
 module _ (reading expected tolerance : ℕ) (fits : tolerance < 2 ^ 63) where
-  abbrev probed : ProbeAnswer
-  probed = probeAnswer reading expected tolerance
-
   -- "Every reading is judged this way."
-  pub probe-accepts : probed ≡ ProbeSpec.accepted (offset 64 reading expected) tolerance
+  pub probe-accepts : probeAnswer reading expected tolerance ≡ ProbeSpec.accepted (offset 64 reading expected) tolerance
   probe-accepts = rw (lt-ltb tolerance (half 64) fits)
 
   -- "offset = reading - expected modulo 2^64, read as a signed number from -2^63 to 2^63 - 1".
-  pub offset-right : (negℤ (pos (2 ^ 63)) ≤ℤ probed .offset) × (probed .offset ≤ℤ pos (2 ^ 63 - 1))
-      × (Word.sum 64 (Probe.wordOf 64 (probed .offset)) expected ≡ Word.word 64 reading)
+  pub offset-right :
+      let probed = probeAnswer reading expected tolerance in
+      (negℤ (pos (2 ^ 63)) ≤ℤ probed .offset) × (probed .offset ≤ℤ pos (2 ^ 63 - 1))
+      × (Word.sum 64 (ProbeSpec.wordOf 64 (probed .offset)) expected ≡ Word.word 64 reading)
   offset-right =
       let (least, greatest) = Probe.offset-range 64 reading expected (omega arith) in
       rw probe-accepts (least, greatest, Probe.offset-word 64 reading expected)
 
   -- "Offset above T is *ahead*, below -T is *behind*, else *within*. Offset -2^63 is always behind."
-  pub verdict-right : (pos tolerance <ℤ probed .offset → verdictWord (probed .verdict) ≡ ahead)
+  pub verdict-right :
+      let probed = probeAnswer reading expected tolerance in
+      (pos tolerance <ℤ probed .offset → verdictWord (probed .verdict) ≡ ahead)
       × (probed .offset <ℤ negℤ (pos tolerance) → verdictWord (probed .verdict) ≡ behind)
       × (negℤ (pos tolerance) ≤ℤ probed .offset → probed .offset ≤ℤ pos tolerance → verdictWord (probed .verdict) ≡ within)
       × (probed .offset ≡ negℤ (pos (2 ^ 63)) → verdictWord (probed .verdict) ≡ behind)
@@ -358,6 +381,9 @@ pub compile-unique : {s : List ℕ} {start step : ℕ} {lent : List ℕ} {r r′
     → Compiling 64 s start step lent r q → Compiling 64 s start step lent r′ q′ → (r ≡ r′) × (q ≡ q′)
 compile-unique = compiling-unique
 
+pub read-unique : {s lent q q′ : List ℕ} {r r′ : ReadAnswer} → Reading 64 s lent r q → Reading 64 s lent r′ q′ → (r ≡ r′) × (q ≡ q′)
+read-unique = reading-unique
+
 pub fill-unique : (p table : List ℕ) (budget : ℕ) (r r′ : FillAnswer) (t t′ q q′ : List ℕ)
     → r ≡ fill 64 p table budget .answer → t ≡ fill 64 p table budget .table → q ≡ fill 64 p table budget .plan
     → r′ ≡ fill 64 p table budget .answer → t′ ≡ fill 64 p table budget .table → q′ ≡ fill 64 p table budget .plan
@@ -369,6 +395,9 @@ cost-unique = Sharing.cost-unique
 
 pub sound-unique : (p : List ℕ) (r r′ : SoundAnswer) → r ≡ soundAnswer p → r′ ≡ soundAnswer p → r ≡ r′
 sound-unique = Sharing.sound-unique
+
+pub refusal-unique : (p : List ℕ) (r r′ : ℕ) → r ≡ Plan.refusal p → r′ ≡ Plan.refusal p → r ≡ r′
+refusal-unique p r r′ = both-are
 
 pub trim-unique : (f : List ℕ) (k : ℕ) (r r′ : ChainAnswer) → r ≡ answered (trimOutcome f k) → r′ ≡ answered (trimOutcome f k) → r ≡ r′
 trim-unique = ChainPromises.trim-unique
@@ -399,3 +428,25 @@ from-coefficients-unique = ChainPromises.from-coefficients-unique
 pub probe-unique : (reading expected tolerance : ℕ) (r r′ : ProbeAnswer)
     → r ≡ probeAnswer reading expected tolerance → r′ ≡ probeAnswer reading expected tolerance → r ≡ r′
 probe-unique = Probe.probe-unique
+
+pub start-unique : (r r′ : Progress) → r ≡ started → r′ ≡ started → r ≡ r′
+start-unique r r′ = both-are
+
+pub step-unique : (p : Progress) (input : List ℕ) (b : Buffers) {r r′ : Stepped} {after after′ : Buffers}
+    → record { answer = r; buffers = after } ≡ stepped p input b → record { answer = r′; buffers = after′ } ≡ stepped p input b
+    → (r ≡ r′) × (after ≡ after′)
+step-unique = StepPromises.step-unique
+
+pub finish-unique : (p : Progress) (b : Buffers) {r r′ : Stepped} {after after′ : Buffers}
+    → record { answer = r; buffers = after } ≡ finished p b → record { answer = r′; buffers = after′ } ≡ finished p b
+    → (r ≡ r′) × (after ≡ after′)
+finish-unique = StepPromises.finish-unique
+
+pub times-unique : (a b r r′ : ℕ) → r ≡ Word.product 64 a b → r′ ≡ Word.product 64 a b → r ≡ r′
+times-unique = WordPromises.times-unique
+
+pub power-unique : (b n r r′ : ℕ) → r ≡ Word.power 64 b n → r′ ≡ Word.power 64 b n → r ≡ r′
+power-unique = WordPromises.power-unique
+
+pub clear-unique : (lent q q′ : List ℕ) → q ≡ replicate (length lent) 0 → q′ ≡ replicate (length lent) 0 → q ≡ q′
+clear-unique lent q q′ = both-are

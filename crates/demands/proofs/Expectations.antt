@@ -1,33 +1,39 @@
 -- What the verdict and the rows of a text's folded tree come to: everything that a line of the starred table says.
-use mathlib.Core.Path.{_≡_, sym, ap, ap₂, subst, _∙_}
-use mathlib.Core.List.{List, [], _++_}
-use Prim.Native.Nat.{ℕ, _+_, _*_, _/_, _≤_, min}
-use native.Mathlib.Nat.{zero-add}
+use mathlib.Core.Path.{_≡_, refl, sym, ap, ap₂, subst, _∙_}
+use mathlib.Core.List.{List, [], _∷_, _++_}
+use Prim.Native.Nat.{ℕ, zero, suc, _+_, _*_, _/_, _≤_, min}
+use native.Mathlib.Nat.{zero-add, mod-eq-of-lt}
 use native.Mathlib.Omega.{arith}
-use lib.ListN.{length, getD, drop}
+use lib.ListN.{length, getD, drop, replicate, length-replicate}
+use Rattle.plan.specs.Measures.{planLength}
 use Rattle.chain.specs.Coefficients.{tabulated}
 use Rattle.formula.specs.Tree.{Tree}
 use Rattle.formula.specs.Refusals.{Refused, Accepted}
 use Rattle.formula.specs.Value.{directValue}
-use Rattle.plan.specs.Row.{Row}
+use Rattle.formula_scan.proofs.Answers.{accepted-base}
+use Rattle.plan.specs.Row.{Row, kindFacts}
 use Rattle.plan.specs.Plan as Plan
 use Rattle.plan.specs.Filling.{pointsFor, planAfter, pointValues, Filled, filled, fill, costAnswer}
 use Rattle.plan.proofs.Accepting.{cost-accepted, fill-accepted}
 use Rattle.plan.proofs.Sharing.{point-at}
-use Rattle.folding.specs.Folded.{Folded}
-use Rattle.folding.specs.Folding.{fold}
-use Rattle.folding.specs.Layout.{rowsFrom, planWords}
-use Rattle.folding.proofs.ReadBack.{rows-back}
-use Rattle.folding.proofs.Compiled.{compiled-accepted, compiled-value}
-use Rattle.compile.specs.declared.CompileAnswer.{CompileAnswer}
-use Rattle.compile.specs.Compiling.{Compiling, refused, accepted}
-use Rattle.compile.proofs.Promise.{compiling-unique}
+use Rattle.fold.specs.Folded.{Folded, constant, valueAt}
+use Rattle.fold.specs.Folding.{fold}
+use Rattle.fold.specs.Layout.{rowsFrom, planWords}
+use Rattle.fold.proofs.Shape.{WellFormed}
+use Rattle.fold.proofs.FoldShape.{accepted-formed}
+use Rattle.fold.proofs.FoldValues.{fold-value}
+use Rattle.fold.proofs.ReadBack.{rows-back}
+use Rattle.fold.proofs.Compiled.{compiled-accepted, compiled-value}
+use Rattle.fold.specs.declared.CompileAnswer.{CompileAnswer}
+use Rattle.fold.specs.Compiling.{Compiling, refused, accepted}
+use Rattle.fold.proofs.Promise.{compiling-unique}
+use Rattle.demands.specs.Starred as Starred
 use Rattle.demands.specs.Starred.{planOf, Compiles, RefusedSo, FoldsSo, FillsSo}
 use Rattle.demands.proofs.PlanRows.{shiftedRows, pointsByRows, points-known, plan-by-rows, left-by-rows}
 
 module _ (s : List ℕ) (start step : ℕ) where
   compiles-only : {answer : CompileAnswer} {left : List ℕ → List ℕ}
-      → ((lent : List ℕ) → 2561 ≤ length lent → Compiling 64 s start step lent answer (left lent)) → Compiles s start step answer left
+      → ((lent : List ℕ) → planLength ≤ length lent → Compiling 64 s start step lent answer (left lent)) → Compiles s start step answer left
   compiles-only conforms = record { conforms = conforms; unique = λ lent long A. compiling-unique A (conforms lent long) }
 
   pub refused-so : {number place : ℕ} → Refused 64 s number place → RefusedSo s start step number place
@@ -60,7 +66,7 @@ module _ (s : List ℕ) (start step : ℕ) where
       laid = laid;
       compiles =
           compiles-only
-          (λ given long. subst (λ p. Compiling 64 s start step given (record { number = 0; place = 0 }) (p ++ drop 2561 given)) laid (accepted long A));
+          (λ given long. subst (λ p. Compiling 64 s start step given (record { number = 0; place = 0 }) (p ++ drop planLength given)) laid (accepted long A));
       has-rows = λ rest. ap (λ p. Plan.rows (p ++ rest)) (sym laid) ∙ rows-back folded rest ∙ same-rows;
       costs =
           λ rest. subst (λ p. costAnswer (p ++ rest) ≡ record { number = 0; place = 0; cost = cost }) laid
@@ -79,6 +85,26 @@ module _ (s : List ℕ) (start step : ℕ) where
         written : (rest : List ℕ) → pointValues 64 (length values) (lent rest) ≡ values
         written rest = direct-points (length values) rest ∙ same-values
 
+    -- The folded tree is a constant.
+    module _ {value : ℕ} (same : folded ≡ constant value) where
+      constant-value : (i : ℕ) → directValue 64 start step t i ≡ value
+      unfolding WellFormed valueAt
+      constant-value i =
+          sym (fold-value 64 start step t (accepted-base A) i)
+          ∙ ap (λ a. valueAt 64 a i) same
+          ∙ mod-eq-of-lt (subst (WellFormed 64) same (accepted-formed 64 start step A (omega arith)))
+
+      constant-values : (m n : ℕ) → tabulated (directValue 64 start step t) m n ≡ replicate n value
+      unfolding tabulated
+      constant-values m zero = refl
+      constant-values m (suc n) = ap₂ {C = List ℕ} _∷_ (constant-value m) (constant-values (suc m) n)
+
+      pub constantly-so : (n : ℕ) → FoldsSo s start step (Starred.alone (Starred.constant value)) 0 (replicate n value)
+      unfolding rowsFrom Plan.costOf kindFacts
+      constantly-so n =
+          folds-so (ap (rowsFrom 0) same) (ap (λ a. Plan.costOf (rowsFrom 0 a)) same)
+          (constant-values 0 (length (replicate n value)) ∙ ap (λ k. replicate k value) (length-replicate n value))
+
     pub fills-so : {budget room points spent : ℕ} {left : List Row} → pointsByRows budget room rowsOf ≡ points
         → pointsByRows budget room rowsOf * (Plan.costOf rowsOf + 1) ≡ spent → shiftedRows 64 (pointsByRows budget room rowsOf) rowsOf ≡ left
         → FillsSo s start step budget room points spent left
@@ -87,12 +113,12 @@ module _ (s : List ℕ) (start step : ℕ) where
       accepted = A;
       filled =
           λ given long C table size. ap (λ q. fill 64 q table budget) (compiling-unique C (accepted long A) .1)
-          ∙ fill-accepted 64 (lent (drop 2561 given)) table budget (compiled-accepted 64 start step (omega arith) A (drop 2561 given))
-          ∙ ap (λ n. filled 64 n (lent (drop 2561 given)) table) (counted (drop 2561 given) table size)
+          ∙ fill-accepted 64 (lent (drop planLength given)) table budget (compiled-accepted 64 start step (omega arith) A (drop planLength given))
+          ∙ ap (λ n. filled 64 n (lent (drop planLength given)) table) (counted (drop planLength given) table size)
           ∙ ap
-          (λ n. filling n (pointValues 64 points (lent (drop 2561 given)) ++ drop points table) (planAfter 64 points (lent (drop 2561 given))))
-          (paid (drop 2561 given))
-          ∙ ap₂ (λ l q. filling spent (l ++ drop points table) q) (direct-points points (drop 2561 given)) (after (drop 2561 given));
+          (λ n. filling n (pointValues 64 points (lent (drop planLength given)) ++ drop points table) (planAfter 64 points (lent (drop planLength given))))
+          (paid (drop planLength given))
+          ∙ ap₂ (λ l q. filling spent (l ++ drop points table) q) (direct-points points (drop planLength given)) (after (drop planLength given));
     }
       where
         filling : ℕ → List ℕ → List ℕ → Filled

@@ -6,15 +6,16 @@ use native.Mathlib.Nat.{add-zero}
 use native.Mathlib.Omega.{arith}
 use lib.ListN.{length, take, drop, replicate, take-append-drop, length-map}
 use lib.Seq.{drop-drop, drop-at}
+use Rattle.plan.specs.Measures.{rowLength, rowsLength}
 use Rattle.chain.specs.Coefficients.{tabulated}
 use Rattle.plan.specs.Row.{Row}
 use Rattle.plan.specs.Plan as Plan
 use Rattle.plan.specs.Points.{rootValue, shiftedRow, shiftedFrom, shiftedPlan}
 use Rattle.plan.specs.Filling.{planAfter, pointValues}
 use Rattle.plan.proofs.Keeping.{rows-shifted, past-rows}
-use Rattle.folding.specs.Folded.{Folded}
-use Rattle.folding.specs.Layout.{rowCount, rowsFrom, wordsOf, planWords}
-use Rattle.folding.proofs.ReadBack.{rows-of, length-tree, afterRows, words-back, rows-back}
+use Rattle.fold.specs.Folded.{Folded}
+use Rattle.fold.specs.Layout.{rowCount, rowsFrom, wordsOf, planWords}
+use Rattle.fold.proofs.ReadBack.{rows-of, length-tree, afterRows, words-back, rows-back}
 use Rattle.demands.specs.Starred.{planOf}
 
 -- ---- any plan
@@ -33,24 +34,24 @@ length-shifted-rows w zero rows = refl
 length-shifted-rows w (suc n) rows = length-shifted-rows w n (map (shiftedRow w) rows) ∙ length-map rows (shiftedRow w)
 
 -- Words cut into rows are put together again.
-words-again : (n : ℕ) (f : List ℕ) → wordsOf (Plan.rowsFrom n f) ++ drop (20 * n) f ≡ f
+words-again : (n : ℕ) (f : List ℕ) → wordsOf (Plan.rowsFrom n f) ++ drop (rowLength * n) f ≡ f
 unfolding wordsOf Plan.rowsFrom
 words-again zero f = refl
 words-again (suc n) f =
-    append-assoc (take 20 f) (wordsOf (Plan.rowsFrom n (drop 20 f))) (drop (20 * suc n) f)
-    ∙ ap (λ l. take 20 f ++ (wordsOf (Plan.rowsFrom n (drop 20 f)) ++ l)) later
-    ∙ ap (λ l. take 20 f ++ l) (words-again n (drop 20 f))
-    ∙ take-append-drop 20 f
+    append-assoc (take rowLength f) (wordsOf (Plan.rowsFrom n (drop rowLength f))) (drop (rowLength * suc n) f)
+    ∙ ap (λ l. take rowLength f ++ (wordsOf (Plan.rowsFrom n (drop rowLength f)) ++ l)) later
+    ∙ ap (λ l. take rowLength f ++ l) (words-again n (drop rowLength f))
+    ∙ take-append-drop rowLength f
   where
-    twenty-more : 20 * suc n ≡ 20 + 20 * n
-    twenty-more = omega arith
+    row-more : rowLength * suc n ≡ rowLength + rowLength * n
+    row-more = omega arith
 
-    later : drop (20 * suc n) f ≡ drop (20 * n) (drop 20 f)
-    later = ap (λ k. drop k f) twenty-more ∙ sym (drop-drop (20 * n) 20 f)
+    later : drop (rowLength * suc n) f ≡ drop (rowLength * n) (drop rowLength f)
+    later = ap (λ k. drop k f) row-more ∙ sym (drop-drop (rowLength * n) rowLength f)
 
 -- The plan after n points: its rows shifted, and the words after them.
 after-rows : (w n count : ℕ) (f : List ℕ)
-    → planAfter w n (count ∷ f) ≡ count ∷ wordsOf (shiftedRows w n (Plan.rowsFrom count f)) ++ drop (20 * count) f
+    → planAfter w n (count ∷ f) ≡ count ∷ wordsOf (shiftedRows w n (Plan.rowsFrom count f)) ++ drop (rowLength * count) f
 unfolding planAfter shiftedRows shiftedPlan
 after-rows w zero count f = ap {B = List ℕ} (λ l. count ∷ l) (sym (words-again count f))
 after-rows w (suc n) count f =
@@ -71,14 +72,14 @@ points-known w (suc n) m p known h =
 -- ---- the plan of a folded tree
 module _ (a : Folded) where
   pub plan-by-rows : planWords a ≡ planOf (rowsFrom 0 a)
-  plan-by-rows = ap {B = List ℕ} (λ n. n ∷ wordsOf (rowsFrom 0 a) ++ replicate (2560 - 20 * n) 0) (sym (rows-of 0 a .count))
+  plan-by-rows = ap {B = List ℕ} (λ n. n ∷ wordsOf (rowsFrom 0 a) ++ replicate (rowsLength - rowLength * n) 0) (sym (rows-of 0 a .count))
 
   pub left-by-rows : (w n : ℕ) (rest : List ℕ) → planAfter w n (planWords a ++ rest) ≡ planOf (shiftedRows w n (rowsFrom 0 a)) ++ rest
   left-by-rows w n rest =
-      after-rows w n (rowCount a) ((wordsOf (rowsFrom 0 a) ++ replicate (2560 - 20 * rowCount a) 0) ++ rest)
+      after-rows w n (rowCount a) ((wordsOf (rowsFrom 0 a) ++ replicate (rowsLength - rowLength * rowCount a) 0) ++ rest)
       ∙ ap₂ {C = List ℕ} (λ rows l. rowCount a ∷ wordsOf (shiftedRows w n rows) ++ l) (rows-back a rest) past
-      ∙ ap {B = List ℕ} (λ k. k ∷ wordsOf left ++ (replicate (2560 - 20 * k) 0 ++ rest)) (sym count)
-      ∙ ap {B = List ℕ} (λ l. length left ∷ l) (sym (append-assoc (wordsOf left) (replicate (2560 - 20 * length left) 0) rest))
+      ∙ ap {B = List ℕ} (λ k. k ∷ wordsOf left ++ (replicate (rowsLength - rowLength * k) 0 ++ rest)) (sym count)
+      ∙ ap {B = List ℕ} (λ l. length left ∷ l) (sym (append-assoc (wordsOf left) (replicate (rowsLength - rowLength * length left) 0) rest))
     where
       left : List Row
       left = shiftedRows w n (rowsFrom 0 a)
@@ -86,7 +87,7 @@ module _ (a : Folded) where
       count : length left ≡ rowCount a
       count = length-shifted-rows w n (rowsFrom 0 a) ∙ rows-of 0 a .count
 
-      past : drop (20 * rowCount a) ((wordsOf (rowsFrom 0 a) ++ replicate (2560 - 20 * rowCount a) 0) ++ rest) ≡ afterRows a rest
+      past : drop (rowLength * rowCount a) ((wordsOf (rowsFrom 0 a) ++ replicate (rowsLength - rowLength * rowCount a) 0) ++ rest) ≡ afterRows a rest
       past =
-          ap (λ l. drop (20 * rowCount a) l) (words-back a rest)
-          ∙ drop-at (wordsOf (rowsFrom 0 a)) (afterRows a rest) (20 * rowCount a) (length-tree 0 a)
+          ap (λ l. drop (rowLength * rowCount a) l) (words-back a rest)
+          ∙ drop-at (wordsOf (rowsFrom 0 a)) (afterRows a rest) (rowLength * rowCount a) (length-tree 0 a)

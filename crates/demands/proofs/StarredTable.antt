@@ -1,6 +1,7 @@
--- The starred table, computed by one test, and the law that reads a case off: what the case says holds of the public contracts.
-use mathlib.Core.Path.{_≡_, refl}
-use mathlib.Core.Bool.{true≢false}
+-- The starred table: its cases on a grid computed by one test, those on any grid proved, and the law that reads a case off: what the case says
+-- holds of the public contracts.
+use mathlib.Core.Path.{_≡_, refl, ap, _∙_}
+use mathlib.Core.Bool.{Bool, true, false, cond, true≢false}
 use mathlib.Core.List.{List, [], _∷_, map}
 use Prim.Native.Nat.{ℕ, zero, suc, _+_, _*_, _<_}
 use native.Mathlib.Nat.{not-suc-le-zero, le-of-suc-le-suc}
@@ -10,18 +11,21 @@ use Rattle.chain.specs.SumChain.{times, product, power}
 use Rattle.chain.specs.Coefficients.{tabulated}
 use Rattle.formula.specs.Tree.{Tree}
 use Rattle.formula.specs.Value.{valueFor, directValue}
-use Rattle.formula.specs.Verdict.{Verdict, refused, accepted, verdict}
-use Rattle.formula.proofs.Closed.{judges}
-use Rattle.formula.proofs.Verdicts.{verdict-refused, verdict-accepted}
+use Rattle.formula_scan.specs.Verdict.{Verdict, refused, accepted, verdict}
+use Rattle.formula_scan.proofs.Closed.{judges}
+use Rattle.formula_scan.proofs.Verdicts.{verdict-refused, verdict-accepted}
 use Rattle.plan.specs.Row.{Row, kindFacts}
 use Rattle.plan.specs.Plan.{costOf}
 use Rattle.plan.specs.Points.{shiftedRow}
-use Rattle.folding.specs.Folded.{Folded}
-use Rattle.folding.specs.Folding.{foldSum, foldMinus, foldDifference, foldProduct, foldPower, foldRaise, fold}
-use Rattle.folding.specs.Layout.{rowCount, rowsFrom}
-use Rattle.demands.specs.Starred.{Expected, refusal, folds, fills, Case, starred, caseAt, SaysOf, Says}
+use Rattle.fold.specs.Folded.{Folded, constant, isConstant}
+use Rattle.fold.specs.Folding.{wordOf, foldSum, foldMinus, foldDifference, foldProduct, foldPower, foldRaise, fold}
+use Rattle.fold.specs.Layout.{rowCount, rowsFrom}
+use Rattle.fold.proofs.Tests.{shaped}
+use Rattle.demands.specs.Starred.{Expected, refusal, folds, constantly, fills, Grid, gridOf, anyGrid, Case, starred, caseAt}
+use Rattle.demands.specs.Starred.{SaysOf, SaysOn, Says}
 use Rattle.demands.proofs.PlanRows.{shiftedRows, pointsByRows}
-use Rattle.demands.proofs.Expectations.{refused-so, folds-so, fills-so}
+use Rattle.demands.proofs.Expectations.{refused-so, folds-so, constantly-so, fills-so}
+use Rattle.demands.proofs.AnyGrid.{folds-to-seven}
 
 -- ---- what the definitions make of a case, put as its expectation is put
 -- The folded tree and the rows of its plan, unfolded all the way: named on an `unfolding` line, they compute.
@@ -41,40 +45,78 @@ fillsTo budget room rows =
     let points = pointsByRows budget room rows in
     fills budget room points (points * (costOf rows + 1)) (shiftedRows 64 points rows)
 
+-- A constant; anything else is put as a refusal that no text gets.
+abbrev pub constantTo : Folded → Expected
+constantTo a = cond (isConstant a) (constantly (wordOf a)) (refusal 0 0)
+
 -- As many values as are expected, and the filling with the budget and room that are given.
 unfoldable pub foundOf : (start step : ℕ) → Expected → Verdict → Expected
 foundOf start step e (refused n p) = refusal n p
 foundOf start step (refusal n p) (accepted t) = foldsTo start step 0 t (rowsOf start step t)
 foundOf start step (folds rows cost values) (accepted t) = foldsTo start step (length values) t (rowsOf start step t)
+foundOf start step (constantly value) (accepted t) = constantTo (foldedOf start step t)
 foundOf start step (fills budget room points spent left) (accepted t) = fillsTo budget room (rowsOf start step t)
 
+-- On any grid nothing is computed.
+unfoldable pub foundOn : Grid → Expected → Verdict → Expected
+foundOn (gridOf start step) e v = foundOf start step e v
+foundOn anyGrid e v = e
+
 abbrev pub found : Case → Expected
-found c = foundOf (c .start) (c .step) (c .expected) (verdict (c .text))
+found c = foundOn (c .grid) (c .expected) (verdict (c .text))
 
 -- ---- the test, over the whole table
 pub as-expected : map found starred ≡ map (λ c. c .expected) starred
-unfolding starred foundOf shiftedRows judges rowsOf costOf kindFacts shiftedRow tabulated valueFor
+unfolding starred foundOf foundOn foldedOf shiftedRows judges rowsOf costOf kindFacts shiftedRow tabulated valueFor
 as-expected = refl
 
--- ---- a case read off
--- Two functions that agree all over a list agree at each of its places.
-same-at : {A B : Type 0} (f g : A → B) (l : List A) (d : A) (i : ℕ) → map f l ≡ map g l → i < length l → f (getD l i d) ≡ g (getD l i d)
-same-at f g [] d i e h = absurd (not-suc-le-zero h)
-same-at f g (a ∷ l) d zero e h = cc
-same-at f g (a ∷ l) d (suc i) e h = same-at f g l d i (cc) (le-of-suc-le-suc h)
+-- ---- what the test leaves to be proved: what the cases on any grid say
+abbrev Besides : Grid → Type 0 → Type 0 → Type 0
+Besides (gridOf start step) Here Later = Later
+Besides anyGrid Here Later = Here × Later
 
+unfoldable OnAnyGrid : List Case → Type 0
+OnAnyGrid [] = Unit {0}
+OnAnyGrid (c ∷ l) = Besides (c .grid) (Says c) (OnAnyGrid l)
+
+on-any-grid : OnAnyGrid starred
+unfolding starred OnAnyGrid judges
+on-any-grid = (
+  λ start step. let seven = verdict-accepted _ refl in constantly-so _ start step seven (folds-to-seven seven refl start step),
+  tt,
+)
+
+-- ---- a case read off
 module _ (s : List ℕ) (start step : ℕ) where
+  constant-says : {t : Tree} {value : ℕ} → verdict s ≡ accepted t → (b : Bool) → isConstant (fold 64 start step t) ≡ b
+      → cond b (constantly (wordOf (fold 64 start step t))) (refusal 0 0) ≡ constantly value → SaysOf s start step (constantly value)
+  constant-says {t} h true e same =
+      constantly-so s start step (verdict-accepted s h) (shaped (fold 64 start step t) .constantly e ∙ ap constant (cc))
+  constant-says h false e same = absurd (true≢false cc)
+
   found-says : (e : Expected) (v : Verdict) → verdict s ≡ v → foundOf start step e v ≡ e → SaysOf s start step e
   unfolding foundOf foldedOf rowsOf
   found-says (refusal n p) (refused m q) h e = refused-so s start step (verdict-refused s cc)
   found-says (refusal n p) (accepted t) h e = absurd (true≢false cc)
   found-says (folds rows cost values) (refused m q) h e = absurd (true≢false cc)
   found-says (folds rows cost values) (accepted t) h e = folds-so s start step (verdict-accepted s h) (cc) (cc) (cc)
+  found-says (constantly value) (refused m q) h e = absurd (true≢false cc)
+  found-says (constantly value) (accepted t) h e = constant-says h _ refl e
   found-says (fills budget room points spent left) (refused m q) h e = absurd (true≢false cc)
   found-says (fills budget room points spent left) (accepted t) h e = fills-so s start step (verdict-accepted s h) (cc) (cc) (cc)
 
+case-says : (s : List ℕ) (g : Grid) (e : Expected) {Later : Type 0} → foundOn g e (verdict s) ≡ e → Besides g (SaysOn s g e) Later
+    → SaysOn s g e × Later
+unfolding foundOn
+case-says s (gridOf start step) e same later = (found-says s start step e (verdict s) refl same, later)
+case-says s anyGrid e same both = both
+
+says-at : (l : List Case) (d : Case) (i : ℕ) → map found l ≡ map (λ c. c .expected) l → OnAnyGrid l → i < length l → Says (getD l i d)
+unfolding OnAnyGrid
+says-at [] d i e any h = absurd (not-suc-le-zero h)
+says-at (c ∷ l) d zero e any h = case-says (c .text) (c .grid) (c .expected) (cc) any .0
+says-at (c ∷ l) d (suc i) e any h = says-at l d i (cc) (case-says (c .text) (c .grid) (c .expected) (cc) any .1) (le-of-suc-le-suc h)
+
 -- Whatever is written in a case of the table holds.
 pub starred-says : (i : ℕ) → i < length starred → Says (caseAt i)
-starred-says i h =
-    found-says (caseAt i .text) (caseAt i .start) (caseAt i .step) (caseAt i .expected) (verdict (caseAt i .text)) refl
-    (same-at found (λ c. c .expected) starred _ i as-expected h)
+starred-says i h = says-at starred _ i as-expected on-any-grid h

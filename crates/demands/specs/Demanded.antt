@@ -4,6 +4,7 @@ use mathlib.Core.Bool.{false}
 use mathlib.Core.List.{List}
 use Prim.Native.Nat.{ℕ, _+_, _%_, _^_, _≤_, _<_}
 use lib.ListN.{length, getD, take, replicate}
+use Rattle.formula.specs.Words.{mostNodes}
 use Rattle.word.specs.Word as Word
 use Rattle.formula.specs.Tree.{Tree, number, literalPower, raise, nodes, holdsX}
 use Rattle.formula.specs.Grammar.{Formula}
@@ -23,7 +24,7 @@ pub record Allowed (s : List ℕ) (t : Tree) : Type 0 where
   pub brackets : (p : ℕ) → TooDeep s p → ⊥
   pub numbers : (p v : ℕ) → Part (number p v) t → v < 2 ^ 64
   pub exponents : (a : Tree) (p n : ℕ) → Part (literalPower a p n) t → n ≤ 64
-  pub size : nodes t ≤ 128
+  pub size : nodes t ≤ mostNodes
   pub bases : (a b : Tree) (p : ℕ) → Part (raise a p b) t → (holdsX a ≡ false) × (valueFor 64 0 a % 2 ≡ 1)
 
 -- The value at index i of a chain that is given as words and a length: words past the length are not read.

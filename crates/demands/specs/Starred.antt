@@ -1,10 +1,11 @@
 -- 01's starred cases as one table: the lines with a star of 'Both sides of the edges', each under 01's own words, and what a line says of the
--- public contracts. proofs/StarredTable.antt computes the table and reads a line off; x*x-x^2+7 on any grid is in proofs/AnyGrid.antt.
+-- public contracts. proofs/StarredTable.antt has the theorem that each says what holds.
 use mathlib.Core.Path.{_≡_}
 use mathlib.Core.List.{List, [], _∷_, _++_}
 use Prim.Native.Nat.{ℕ, _-_, _*_, _^_, _≤_, _<_}
 use Prim.Native.String.{String}
 use lib.ListN.{length, getD, drop, replicate}
+use Rattle.plan.specs.Measures.{planLength, rowLength, rowsLength}
 use Rattle.chain.specs.Coefficients.{tabulated}
 use Rattle.formula.specs.Bytes.{bytes}
 use Rattle.formula.specs.Tree.{Tree}
@@ -13,10 +14,10 @@ use Rattle.formula.specs.Value.{directValue}
 use Rattle.plan.specs.Row.{Row}
 use Rattle.plan.specs.Plan as Plan
 use Rattle.plan.specs.Filling.{pointValues, fill, costAnswer}
-use Rattle.folding.specs.Folding.{fold}
-use Rattle.folding.specs.Layout.{rowWords, wordsOf, planWords}
-use Rattle.compile.specs.declared.CompileAnswer.{CompileAnswer}
-use Rattle.compile.specs.Compiling.{Compiling}
+use Rattle.fold.specs.Folding.{fold}
+use Rattle.fold.specs.Layout.{rowWords, wordsOf, planWords}
+use Rattle.fold.specs.declared.CompileAnswer.{CompileAnswer}
+use Rattle.fold.specs.Compiling.{Compiling}
 
 -- ---- a line of the table
 -- What is expected of a text on a grid.
@@ -25,17 +26,26 @@ pub data Expected : Type 0 where
   refusal : (number place : ℕ) → Expected
   -- The rows of the plan, their cost, and the values at the first indices.
   folds : (rows : List Row) (cost : ℕ) (values : List ℕ) → Expected
+  -- One row, this constant, which costs nothing, and its value at every index.
+  constantly : (value : ℕ) → Expected
   -- The plan filled with that budget into a table of that many words: the points, the budget spent, and the rows of the plan left.
   fills : (budget room points spent : ℕ) (left : List Row) → Expected
 
+-- The grid that it stands on, or any.
+pub data Grid : Type 0 where
+  gridOf : (start step : ℕ) → Grid
+  anyGrid : Grid
+
 pub record Case : Type 0 where
   pub text : List ℕ
-  pub start : ℕ
-  pub step : ℕ
+  pub grid : Grid
   pub expected : Expected
 
 abbrev pub on : String → (start step : ℕ) → Expected → Case
-on text start step expected = record { text = bytes text; start = start; step = step; expected = expected }
+on text start step expected = record { text = bytes text; grid = gridOf start step; expected = expected }
+
+abbrev pub anywhere : String → Expected → Case
+anywhere text expected = record { text = bytes text; grid = anyGrid; expected = expected }
 
 -- "Start 0 and step 1 unless said."
 abbrev pub plainly : String → Expected → Case
@@ -75,8 +85,10 @@ starred =
     ∷ plainly "x^3" (fills 15 10 3 12 (alone (sumChain (27 ∷ 37 ∷ 24 ∷ 6 ∷ []))))
     -- "3*x+1, start 5, step 2: chain 16,6."
     ∷ on "3*x+1" 5 2 (folds (alone (sumChain (16 ∷ 6 ∷ []))) 1 (16 ∷ 22 ∷ 28 ∷ []))
+    -- "x*x-x^2+7, any grid: constant 7."
+    ∷ anywhere "x*x-x^2+7" (constantly 7)
     -- "x^2, step 2^32: constant 0."
-    ∷ on "x^2" 0 (2 ^ 32) (folds (alone (constant 0)) 0 (0 ∷ 0 ∷ 0 ∷ []))
+    ∷ on "x^2" 0 (2 ^ 32) (constantly 0)
     -- "x and x^2+x, step 2^63: both 0,2^63."
     ∷ on "x" 0 (2 ^ 63) (folds (alone (sumChain (0 ∷ (2 ^ 63) ∷ []))) 1 (0 ∷ (2 ^ 63) ∷ 0 ∷ []))
     ∷ on "x^2+x" 0 (2 ^ 63) (folds (alone (sumChain (0 ∷ (2 ^ 63) ∷ []))) 1 (0 ∷ (2 ^ 63) ∷ 0 ∷ []))
@@ -87,8 +99,8 @@ starred =
     -- "3^(3^(x)): three rows, cost 129, values 3, 27, 19683, 7625597484987."
     ∷ plainly "3^(3^(x))" (folds (constant 3 ∷ productChain (1 ∷ 3 ∷ []) ∷ raise 0 1 ∷ []) 129 (3 ∷ 27 ∷ 19683 ∷ 7625597484987 ∷ []))
     -- "0^0 is 1; 2^3 is 8; 2^(3) is refused 8, place 1; so is x^(2)."
-    ∷ plainly "0^0" (folds (alone (constant 1)) 0 (1 ∷ 1 ∷ []))
-    ∷ plainly "2^3" (folds (alone (constant 8)) 0 (8 ∷ 8 ∷ []))
+    ∷ plainly "0^0" (constantly 1)
+    ∷ plainly "2^3" (constantly 8)
     ∷ plainly "2^(3)" (refusal 8 1)
     ∷ plainly "x^(2)" (refusal 8 1)
     -- "x^17: two rows, cost 17. x^16: one chain, last element 20922789888000."
@@ -108,12 +120,12 @@ caseAt i = getD starred i (plainly "" (refusal 4 0))
 -- ---- what a case says
 -- The 2,561 words of a plan of these rows.
 abbrev pub planOf : List Row → List ℕ
-planOf rows = length rows ∷ wordsOf rows ++ replicate (2560 - 20 * length rows) 0
+planOf rows = length rows ∷ wordsOf rows ++ replicate (rowsLength - rowLength * length rows) 0
 
 -- What compiling comes to by its contract, for every lent plan of 2,561 words or more: this answer and these words, and no others.
 pub record Compiles (s : List ℕ) (start step : ℕ) (answer : CompileAnswer) (left : List ℕ → List ℕ) : Type 0 where
-  pub conforms : (lent : List ℕ) → 2561 ≤ length lent → Compiling 64 s start step lent answer (left lent)
-  pub unique : (lent : List ℕ) → 2561 ≤ length lent → {r : CompileAnswer} {q : List ℕ} → Compiling 64 s start step lent r q
+  pub conforms : (lent : List ℕ) → planLength ≤ length lent → Compiling 64 s start step lent answer (left lent)
+  pub unique : (lent : List ℕ) → planLength ≤ length lent → {r : CompileAnswer} {q : List ℕ} → Compiling 64 s start step lent r q
       → (r ≡ answer) × (q ≡ left lent)
 
 -- A refusal: the text is refused so, and a lent plan stays as it was.
@@ -126,7 +138,7 @@ pub record FoldsSo (s : List ℕ) (start step : ℕ) (rows : List Row) (cost : �
   pub tree : Tree
   pub accepted : Accepted 64 s tree
   pub laid : planWords (fold 64 start step tree) ≡ planOf rows
-  pub compiles : Compiles s start step (record { number = 0; place = 0 }) (λ lent. planOf rows ++ drop 2561 lent)
+  pub compiles : Compiles s start step (record { number = 0; place = 0 }) (λ lent. planOf rows ++ drop planLength lent)
   -- The plan, whatever words follow it.
   pub has-rows : (rest : List ℕ) → Plan.rows (planOf rows ++ rest) ≡ rows
   pub costs : (rest : List ℕ) → costAnswer (planOf rows ++ rest) ≡ record { number = 0; place = 0; cost = cost }
@@ -139,19 +151,26 @@ pub record FillsSo (s : List ℕ) (start step budget room points spent : ℕ) (l
   pub accepted : Accepted 64 s tree
   -- The plan as compiling leaves it, and a table of that many words: the direct values at the first indices are written into the table,
   -- and the plan is left with these rows; all other words stay.
-  pub filled : (lent : List ℕ) → 2561 ≤ length lent → {r : CompileAnswer} {q : List ℕ} → Compiling 64 s start step lent r q
+  pub filled : (lent : List ℕ) → planLength ≤ length lent → {r : CompileAnswer} {q : List ℕ} → Compiling 64 s start step lent r q
       → (table : List ℕ) → length table ≡ room
       → fill 64 q table budget
       ≡ record {
         answer = record { number = 0; place = 0; points = points; spent = spent };
         table = tabulated (directValue 64 start step tree) 0 points ++ drop points table;
-        plan = planOf left ++ drop 2561 lent;
+        plan = planOf left ++ drop planLength lent;
       }
 
+-- A constant has its value at as many indices as are asked for.
 abbrev pub SaysOf : (s : List ℕ) (start step : ℕ) → Expected → Type 0
 SaysOf s start step (refusal number place) = RefusedSo s start step number place
 SaysOf s start step (folds rows cost values) = FoldsSo s start step rows cost values
+SaysOf s start step (constantly value) = (n : ℕ) → FoldsSo s start step (alone (constant value)) 0 (replicate n value)
 SaysOf s start step (fills budget room points spent left) = FillsSo s start step budget room points spent left
 
+-- "any grid": whatever the start and the step.
+abbrev pub SaysOn : List ℕ → Grid → Expected → Type 0
+SaysOn s (gridOf start step) expected = SaysOf s start step expected
+SaysOn s anyGrid expected = (start step : ℕ) → SaysOf s start step expected
+
 abbrev pub Says : Case → Type 0
-Says c = SaysOf (c .text) (c .start) (c .step) (c .expected)
+Says c = SaysOn (c .text) (c .grid) (c .expected)

@@ -75,17 +75,17 @@ fn placed(s: Stack, top: ChainAnswer, taken: usize) -> Stack {
 
 fn shifted(f: ChainAnswer) -> ChainAnswer {
     let elements = f.elements;
-    arithmetic::shift(elements, f.length)
+    chain_calls::shift(elements, f.length)
 }
 
 fn present(f: ChainAnswer) -> chain::ValueAnswer {
     let elements = f.elements;
-    arithmetic::value(elements, f.length)
+    chain_calls::value(elements, f.length)
 }
 
 fn of_coefficients(list: &[u64], count: usize) -> ChainAnswer {
     let held = words::at_most(count, list.len());
-    coefficients::from_coefficients(&list[0..held])
+    chain_coefficients::from_coefficients(&list[0..held])
 }
 
 // The length of a chain is one less than the words listed, so over 16 from 18 words on.
@@ -93,7 +93,7 @@ fn operand(token: &[u8]) -> ChainAnswer {
     let list = words::list(token);
     let mut elements = list.words;
     let mut length = std::num::wrapping_sub_usize(list.count, 1);
-    match digits::byte_at(token, 0) {
+    match formula_digits::byte_at(token, 0) {
         b'm' => {
             elements = M;
             length = text::number(token, 0) as usize;
@@ -124,12 +124,12 @@ fn step(s: Stack, token: &[u8]) -> Stack {
     let k = second.length;
     let g = top.elements;
     let l = top.length;
-    match digits::byte_at(token, 0) {
-        b'+' => placed(s, arithmetic::sum(f, k, g, l), 2),
-        b'-' => placed(s, arithmetic::difference(f, k, g, l), 2),
-        b'*' => placed(s, arithmetic::product(f, k, g, l), 2),
+    match formula_digits::byte_at(token, 0) {
+        b'+' => placed(s, chain_calls::sum(f, k, g, l), 2),
+        b'-' => placed(s, chain_calls::difference(f, k, g, l), 2),
+        b'*' => placed(s, chain_calls::product(f, k, g, l), 2),
         b'E' => placed(s, shifted(top), 1),
-        b'T' => placed(s, arithmetic::trim(g, l), 1),
+        b'T' => placed(s, chain_calls::trim(g, l), 1),
         b'C' => placed(
             s,
             of_coefficients(&g, std::num::wrapping_add_usize(l, 1)),

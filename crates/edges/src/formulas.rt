@@ -3,16 +3,17 @@
 use crate::print;
 use crate::text;
 use crate::words;
+use formula::MOST_NODES;
+use formula::TREE_WORDS;
 ghost use Prim.Native.Nat.{_≤_};
 ghost use lib.ListN.{length};
+ghost use Rattle.formula.specs.Words.{mostNodes};
 
-const TREE_WORDS: usize = 257;
-
-const LENT_WORDS: usize = 258;
+const LENT_WORDS: usize = TREE_WORDS + 1;
 
 // kind word, kind word, ..
 fn nodes(tree: &[u64], count: usize)
-    requires { ⌜ count ≤ 128 ⌝ }
+    requires { ⌜ count ≤ mostNodes ⌝ }
 {
     let mut i = 0;
     while i < count {
@@ -35,7 +36,7 @@ fn print_tree(number: u64, tree: &[u64]) {
         return;
     }
     let counted = words::word_at(tree, 0);
-    let count = words::at_most(counted as usize, 128);
+    let count = words::at_most(counted as usize, MOST_NODES);
     print::number(counted);
     print::label(print::COLON);
     nodes(tree, count);
@@ -48,7 +49,7 @@ fn read(formula: &[u8], count: usize, tree: &mut [u64])
     requires { ⌜ count ≤ length (now tree) ⌝ }
 {
     words::paint(tree);
-    let answer = reading::read(formula, &mut tree[0..count]);
+    let answer = formula_read::read(formula, &mut tree[0..count]);
     print::answer(print::TAB, answer.number, answer.place);
     print_tree(answer.number, tree);
     print::label(print::LINE);

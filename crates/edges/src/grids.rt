@@ -3,6 +3,7 @@
 use crate::plans;
 use crate::print;
 use crate::words;
+use plan::PLAN_WORDS;
 
 const MOST: u64 = 18446744073709551615;
 
@@ -42,7 +43,7 @@ fn is_same(once: &[u64], parts: &[u64]) -> bool {
     true
 }
 
-fn print_plan(answer: compile::CompileAnswer, plan: &[u64], cost: u64) {
+fn print_plan(answer: fold::CompileAnswer, plan: &[u64], cost: u64) {
     print::answer(print::TAB, answer.number, answer.place);
     print::label(print::ROWS);
     print::number(words::word_at(plan, 0));
@@ -56,7 +57,7 @@ fn print_plan(answer: compile::CompileAnswer, plan: &[u64], cost: u64) {
 }
 
 fn on_grid(formula: &[u8], start: u64, step: u64) {
-    let mut plan = [words::UNREAD; 2561];
+    let mut plan = [words::UNREAD; PLAN_WORDS];
     let mut once = [words::UNREAD; VALUES];
     let mut parts = [words::UNREAD; VALUES];
     print::label(print::GRID);

@@ -3,6 +3,7 @@
 mod chains;
 mod formulas;
 mod grids;
+mod jobs;
 mod notation;
 mod plans;
 mod print;
@@ -12,8 +13,8 @@ mod words;
 
 use libc::STDIN_FILENO;
 
-// A case is a name and a body with a bar between them. The section's first letter says what they are; a plan and a formula on grids are
-// the whole line, and a formula's text is its name. `line` is as written, `expanded` has its repeats written out.
+// A case is a name and a body with a bar between them. The section's first letter says what they are; a plan, a formula on grids and a
+// job file are the whole line, and a formula's text is its name. `line` is as written, `expanded` has its repeats written out.
 fn case(section: u8, line: &[u8], expanded: &[u8]) {
     let name = text::before(line, b'|');
     let body = text::after(expanded, b'|');
@@ -26,6 +27,7 @@ fn case(section: u8, line: &[u8], expanded: &[u8]) {
         b'f' => formulas::reading(name, text::before(expanded, b'|'), body),
         b'p' => plans::run(line, expanded),
         b'g' => grids::each(line),
+        b'j' => jobs::run(line),
         _ => print::label(print::NO_SECTION),
     }
 }
@@ -33,10 +35,10 @@ fn case(section: u8, line: &[u8], expanded: &[u8]) {
 // Runs a case, unless the line is empty, a comment or the name of a section. Answers the section of the next line.
 fn turn(section: u8, line: &[u8]) -> u8 {
     let mut bytes = [0u8; 7000];
-    match digits::byte_at(line, 0) {
+    match formula_digits::byte_at(line, 0) {
         0 => section,
         b';' => section,
-        b'[' => digits::byte_at(line, 1),
+        b'[' => formula_digits::byte_at(line, 1),
         _ => {
             let length = notation::expand(line, &mut bytes);
             case(section, line, text::part(&bytes, 0, length));

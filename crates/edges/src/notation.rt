@@ -64,7 +64,7 @@ fn written(notation: &[u8], token: Piece, out: &mut [u8], end: usize) -> usize {
         let mut byte = token.byte;
         if 0 < size {
             let place = std::num::wrapping_add_usize(token.from, (last - end) % size);
-            byte = digits::byte_at(notation, place);
+            byte = formula_digits::byte_at(notation, place);
         }
         out[last] = byte;
         last += 1;

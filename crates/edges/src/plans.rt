@@ -3,27 +3,32 @@
 use crate::print;
 use crate::text;
 use crate::words;
+use plan::MOST_ROWS;
+use plan::PLAN_WORDS;
+use plan::ROW_WORDS;
 ghost use Prim.Native.Nat.{_≤_};
 ghost use lib.ListN.{length};
+ghost use Rattle.plan.specs.Measures.{mostRows};
 
-const PLAN_WORDS: usize = 2561;
+// The place behind row 0.
+const ROW_END: usize = 1 + ROW_WORDS;
 
 pub fn cost(plan: &[u64]) -> plan::CostAnswer {
-    filling::cost(plan)
+    plan_fill::cost(plan)
 }
 
 pub fn filled(plan: &mut [u64], table: &mut [u64], budget: u64) -> plan::FillAnswer {
-    filling::fill(plan, table, budget)
+    plan_fill::fill(plan, table, budget)
 }
 
-pub fn compiled(formula: &[u8], start: u64, step: u64, plan: &mut [u64]) -> compile::CompileAnswer {
+pub fn compiled(formula: &[u8], start: u64, step: u64, plan: &mut [u64]) -> fold::CompileAnswer {
     compile::compile(formula, start, step, plan)
 }
 
 // The next row.
 fn add(token: &[u8], plan: &mut [u64]) {
     let r = words::word_at(plan, 0);
-    let start = std::num::wrapping_add_u64(word::times(20, r), 1);
+    let start = std::num::wrapping_add_u64(word::times(ROW_WORDS as u64, r), 1);
     words::put_list(token, r, plan, start as usize);
     words::put(plan, 0, std::num::wrapping_add_u64(r, 1));
 }
@@ -36,20 +41,20 @@ fn plant(token: &[u8], plan: &mut [u64]) {
 
 // The number of rows, and so many of them. A row's words that are 0 up to its end are left out, but for its kind.
 fn print_rows(plan: &[u64], most: usize)
-    requires { ⌜ most ≤ 128 ⌝ }
+    requires { ⌜ most ≤ mostRows ⌝ }
 {
     let counted = words::word_at(plan, 0);
     print::label(print::PLAN);
     print::number(counted);
     print::label(print::COLON);
-    let words = 20 * words::at_most(counted as usize, most);
+    let words = ROW_WORDS * words::at_most(counted as usize, most);
     let mut i = 0;
     while i < words {
-        let place = i % 20;
+        let place = i % ROW_WORDS;
         if place == 0 {
             print::label(print::BLANK);
             print::number(words::word_at(plan, 1 + i));
-        } else if !words::is_painted(plan, 1 + i, 21 + i - place, 0) {
+        } else if !words::is_painted(plan, 1 + i, ROW_END + i - place, 0) {
             print::label(print::COMMA);
             print::number(words::word_at(plan, 1 + i));
         }
@@ -71,7 +76,7 @@ fn print_lent(table: &[u64], points: usize, plan: &[u64]) {
 
 // Asks everything of the lent words, and answers the points written.
 fn ask(plan: &mut [u64], table: &mut [u64], budget: u64) -> usize {
-    let sound = soundness::sound(plan);
+    let sound = plan_sound::sound(plan);
     let cost = cost(plan);
     let fill = filled(plan, table, budget);
     print::label(print::TAB);
@@ -104,12 +109,12 @@ fn print_plan(number: u64, plan: &[u64]) {
         return;
     }
     let cost = cost(plan);
-    let count = words::at_most(words::word_at(plan, 0) as usize, 128);
+    let count = words::at_most(words::word_at(plan, 0) as usize, MOST_ROWS);
     print::answer(print::COST, cost.number, cost.place);
     print::number(cost.cost);
     print::label(print::BLANK);
-    print_rows(plan, 128);
-    print::clean(plan, 1 + 20 * count, PLAN_WORDS);
+    print_rows(plan, MOST_ROWS);
+    print::clean(plan, 1 + ROW_WORDS * count, PLAN_WORDS);
     print::label(print::BLANK);
     print::kept(plan, PLAN_WORDS);
 }
@@ -131,7 +136,7 @@ fn compile_on(formula: &[u8], start: u64, step: u64, held: usize, plan: &mut [u6
 // budget of 15, which is 999 where it is left out. =x^3 compiles a formula, and g5,2:x^3 does on a grid with start 5 and step 2.
 fn step(token: &[u8], lent: usize, plan: &mut [u64], table: &mut [u64]) -> usize {
     let held = words::at_most(lent, plan.len());
-    match digits::byte_at(token, 0) {
+    match formula_digits::byte_at(token, 0) {
         b'#' => {
             return text::number(token, 0) as usize;
         }

@@ -65,6 +65,14 @@ pub const NO_SECTION: usize = 28;
 
 pub const TOO_LONG: usize = 29;
 
+pub const JOBS: usize = 30;
+
+pub const OF: usize = 31;
+
+pub const BYTES: usize = 32;
+
+pub const NOT_DONE: usize = 33;
+
 pub fn text(bytes: &[u8]) {
     io::write_all(STDOUT_FILENO, bytes);
 }
@@ -77,7 +85,7 @@ pub fn number(word: u64) {
 pub fn label(n: usize) {
     let texts: &[u8] =
         b"\t|\n| |,|:|-| clean| dirty|kept|changed|read | into | words|sound |cost |fill | table | sum |plan |compile |grid \
-|rows |values | differs| none| within| ahead| behind|no such section\n|the input is longer than 65535 bytes\n|";
+|rows |values | differs| none| within| ahead| behind|no such section\n|the input is longer than 65535 bytes\n|jobs | of | bytes/| not done|";
     let mut left = n;
     let mut at = 0;
     while at < texts.len() {

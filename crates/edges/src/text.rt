@@ -1,12 +1,13 @@
 // Parts of a text between marks, and decimal words.
 // What a part stands for is up to the modules above.
+use table_fields::fields;
 ghost use mathlib.Core.Path.{_≡_};
 ghost use mathlib.Core.Bool.{cond, _&&_};
 ghost use mathlib.Core.List.{[]};
 ghost use Prim.Native.Nat.{_+_, _-_, _≤_, _<_};
 ghost use lib.Dec.{leb};
 ghost use lib.ListN.{length, take, drop};
-ghost use Rattle.fields.specs.Parts.{before, after};
+ghost use Rattle.table.specs.Parts.{before, after};
 
 // Where a part of a text ends, and where the next one begins; the same place where no mark ends the part.
 pub struct Ends {
@@ -73,7 +74,7 @@ pub fn number(text: &[u8], r: u64) -> u64 {
         }
         i += 1;
     }
-    match digits::byte_at(text, 0) {
+    match formula_digits::byte_at(text, 0) {
         b'-' => std::num::wrapping_sub_u64(0, value),
         b'~' => std::num::wrapping_sub_u64(r, value),
         _ => value,

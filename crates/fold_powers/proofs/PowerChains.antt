@@ -22,9 +22,9 @@ use Rattle.chain.proofs.SumLaws.{value-words, value-product, value-power}
 use Rattle.chain.proofs.Trimming.{value-trimmed-sum, length-trimmed, length-trimmed-some}
 use Rattle.chain.proofs.Canonical.{same-trimmed}
 use Rattle.chain.proofs.Calls.{length-product}
-use Rattle.rows.specs.Standing.{filledWithOnes}
-use Rattle.operands.proofs.OperandLaws.{Chain, row-taken}
-use Rattle.operands.proofs.OnesTrimmed.{map-filled, words-trimmed}
+use Rattle.fold_rows.specs.Standing.{filledWithOnes}
+use Rattle.fold_operands.proofs.OperandLaws.{Chain, row-taken}
+use Rattle.fold_operands.proofs.OnesTrimmed.{map-filled, words-trimmed}
 
 -- ---- "P^n: every element to the n", on 17 words filled with ones
 short-map : (h : ℕ → ℕ) (f : List ℕ) → length f ≤ 17 → length (map h f) ≤ 17

@@ -8,6 +8,7 @@ use native.Mathlib.Omega.{arith}
 use lib.Dec.{eqb, leb}
 use lib.ListN.{length, getD, take}
 use borrow.Author.Tests.{eqb-true, eq-eqb, ne-eqb, le-leb, lt-leb}
+use Rattle.plan.specs.Measures.{rowStart}
 use Rattle.word.specs.Word as Word
 use Rattle.chain.specs.declared.ChainAnswer.{ChainAnswer}
 use Rattle.chain.specs.Chain as Chain
@@ -15,18 +16,18 @@ use Rattle.chain.specs.Chain.{words, trimmed, withoutTrailing}
 use Rattle.chain.specs.SumChain as SumChain
 use Rattle.chain.specs.ProductChain as ProductChain
 use Rattle.chain.specs.Answer.{answered, chain}
-use Rattle.plan.specs.Row.{kind, wordA, elements}
+use Rattle.plan.specs.Row.{kind, wordA, elements, firstElement}
 use Rattle.plan.specs.Plan.{row}
-use Rattle.folding.specs.Folded as Folded
-use Rattle.folding.specs.Folded.{Folded, constant, powerRow, raiseRow, isSumChain, isProductChain, ofProduct, trimmedSum, trimmedProduct}
-use Rattle.folding.specs.Folding.{wordOf, lengthOf, foldPower, foldRaise}
-use Rattle.folding.specs.Layout.{rowWords}
-use Rattle.rows.specs.Standing.{rowStart, withRow, placed, filledWithOnes}
-use Rattle.rows.proofs.Stood.{kindOf, is-constant, no-constant, is-sum-chain, no-sum-chain, is-product-chain, no-product-chain, placed-again}
-use Rattle.operands.specs.Operands.{Operand, Folds, FoldsBoth}
-use Rattle.operands.proofs.OperandLaws.{Sum, one, several, sum-operand, operand-kind, operand-last}
-use Rattle.operands.proofs.OperandLaws.{operand-elements, operand-word, operand-chain, operand-taken}
-use Rattle.operands.proofs.Leaving.{left-as, sum-left, product-left, answer-put, power-row-left, raise-row-left}
+use Rattle.fold.specs.Folded as Folded
+use Rattle.fold.specs.Folded.{Folded, constant, powerRow, raiseRow, isSumChain, isProductChain, ofProduct, trimmedSum, trimmedProduct}
+use Rattle.fold.specs.Folding.{wordOf, lengthOf, foldPower, foldRaise}
+use Rattle.fold.specs.Layout.{rowWords}
+use Rattle.fold_rows.specs.Standing.{withRow, placed, filledWithOnes}
+use Rattle.fold_rows.proofs.Stood.{kindOf, is-constant, no-constant, is-sum-chain, no-sum-chain, is-product-chain, no-product-chain, placed-again}
+use Rattle.fold_operands.specs.Operands.{Operand, Folds, FoldsBoth}
+use Rattle.fold_operands.proofs.OperandLaws.{Sum, one, several, sum-operand, operand-kind, operand-last}
+use Rattle.fold_operands.proofs.OperandLaws.{operand-elements, operand-word, operand-chain, operand-taken}
+use Rattle.fold_operands.proofs.Leaving.{left-as, sum-left, product-left, answer-put, power-row-left, raise-row-left}
 use Rattle.fold_powers.proofs.PowerChains.{powered, power-trimmed, raise-trimmed}
 
 -- ---- literal power: the rules, by the kind of the operand
@@ -73,7 +74,7 @@ module _ (p : List ℕ) (first end n : ℕ) {k : ℕ} (at : k ≡ kind (row p (e
   kind-is : {a : Folded} → Operand p first end a → kindOf a ≡ k
   kind-is h = sym (operand-kind h) ∙ sym at
 
-  pub power-of-constant : {c v : ℕ} {q : List ℕ} → k ≡ 0 → c ≡ getD (row p (end - 1)) 3 0 → v ≡ Word.power 64 c n
+  pub power-of-constant : {c v : ℕ} {q : List ℕ} → k ≡ 0 → c ≡ firstElement (row p (end - 1)) → v ≡ Word.power 64 c n
       → q ≡ placed p first (constant v) → Powers (first + 1) q
   power-of-constant {c} {v} z hc hv hq a h =
       left-as (constant-rule a n zero ∙ ap constant (ap (λ x. Word.power 64 x n) (sym (hc ∙ operand-word h (omega (arith, zero)))) ∙ sym hv))
@@ -174,7 +175,7 @@ raise-row-rule a b (inr none) = rw (no-constant a none)
 
 -- ---- raise: what the code leaves
 module _ (p : List ℕ) (left middle end : ℕ) {j k : ℕ} (base : j ≡ kind (row p (middle - 1))) (exponent : k ≡ kind (row p (end - 1))) where
-  pub raise-folded : {c : ℕ} {f v q : List ℕ} → j ≡ 0 → k < 2 → c ≡ getD (row p (middle - 1)) 3 0 → f ≡ elements (row p (end - 1))
+  pub raise-folded : {c : ℕ} {f v q : List ℕ} → j ≡ 0 → k < 2 → c ≡ firstElement (row p (middle - 1)) → f ≡ elements (row p (end - 1))
       → v ≡ words 64 (ProductChain.raised c f) → q ≡ placed p left (trimmedProduct v) → FoldsBoth (foldRaise 64) p left middle end (left + 1) q
   raise-folded {c} {f} {v} z few hc hf hv hq a b h =
       left-as

@@ -1,24 +1,31 @@
 // Literal powers and raises of operands that stand at the top of a lent plan.
 // Which node is one of them is decided in `compile`; sums and products are in `fold_sums` and `fold_products`.
-use arrays::Operation;
-use arrays::word_by_word;
 use chain::ChainAnswer;
-use operands::append;
-use operands::first_element;
-use operands::kind;
-use operands::length_of;
-use operands::put_constant;
-use operands::put_sum;
+use chain_arrays::Operation;
+use chain_arrays::word_by_word;
+use fold_operands::append;
+use fold_operands::first_element;
+use fold_operands::kind;
+use fold_operands::length_of;
+use fold_operands::put_constant;
+use fold_operands::put_sum;
+use fold_rows::product_rows;
+use plan_rows::kinds::CONSTANT;
+use plan_rows::kinds::LITERAL_POWER;
+use plan_rows::kinds::PRODUCT_CHAIN;
+use plan_rows::kinds::RAISE;
+use plan_rows::kinds::SUM_CHAIN;
 ghost use mathlib.Core.Path.{_≡_};
 ghost use Prim.Native.Nat.{_+_, _-_, _*_, _≤_, _<_};
 ghost use lib.ListN.{length, take};
+ghost use Rattle.plan.specs.Measures.{planLength, mostRows};
 ghost use Rattle.plan.specs.Row.{kind};
 ghost use Rattle.plan.specs.Plan.{row};
 ghost use Rattle.chain.specs.Chain.{words, trimmed};
 ghost use Rattle.chain.specs.SumChain.{power};
 ghost use Rattle.chain.specs.Answer.{answered, chain};
-ghost use Rattle.folding.specs.Folding.{foldPower, foldRaise};
-ghost use Rattle.operands.specs.Operands.{One, Two, Folds, FoldsBoth};
+ghost use Rattle.fold.specs.Folding.{foldPower, foldRaise};
+ghost use Rattle.fold_operands.specs.Operands.{One, Two, Folds, FoldsBoth};
 
 // The chain f of length k to the n, trimmed.
 fn power_of(f: [u64; 17], k: usize, n: u64) -> ChainAnswer
@@ -26,11 +33,11 @@ fn power_of(f: [u64; 17], k: usize, n: u64) -> ChainAnswer
     requires { ⌜ k * n ≤ 16 ⌝ }
     ensures { λ r. ⌜ r ≡ answered (chain (trimmed 0 (words 64 (power (take (k + 1) f) n)))) ⌝ }
 {
-    let mut r = arithmetic::trim(f, k);
+    let mut r = chain_calls::trim(f, k);
     let mut i = 1;
     while i < n {
         let elements = r.elements;
-        let next = arithmetic::product(elements, r.length, f, k);
+        let next = chain_calls::product(elements, r.length, f, k);
         r = next;
         i += 1;
     }
@@ -39,8 +46,8 @@ fn power_of(f: [u64; 17], k: usize, n: u64) -> ChainAnswer
 
 // Chains and operators to the n: S^n if k*n is at most 16, every element of P, or a row.
 fn fold_high_power(plan: &mut [u64], first: usize, end: usize, n: u64) -> usize
-    requires { ⌜ 2561 ≤ length (now plan) ⌝ }
-    requires { ⌜ end < 128 ⌝ }
+    requires { ⌜ planLength ≤ length (now plan) ⌝ }
+    requires { ⌜ end < mostRows ⌝ }
     requires { ⌜ 2 ≤ n ⌝ }
     requires { ⌜ n ≤ 64 ⌝ }
     requires { ⌜ One (now plan) first end ⌝ }
@@ -50,32 +57,32 @@ fn fold_high_power(plan: &mut [u64], first: usize, end: usize, n: u64) -> usize
     let root = end - 1;
     let root_kind = kind(plan, root);
     let k = length_of(plan, root);
-    let f = rows::elements(plan, root);
-    if root_kind == 2 {
+    let f = fold_rows::elements(plan, root);
+    if root_kind == PRODUCT_CHAIN {
         let powers = word_by_word(Operation::Power, product_rows::with_ones(f, k), [n; 17]);
         product_rows::put_product(plan, first, powers);
         return first + 1;
     }
-    if root_kind == 1 {
+    if root_kind == SUM_CHAIN {
         if k as u64 * n <= 16 {
             put_sum(plan, first, power_of(f, k, n));
             return first + 1;
         }
     }
-    append(plan, end, 7, root as u64, n);
+    append(plan, end, LITERAL_POWER, root as u64, n);
     end + 1
 }
 
 // The operand from row first up to row end, to the n: "A^0 is 1, A^1 is A".
 pub fn fold_power(plan: &mut [u64], first: usize, end: usize, n: u64) -> usize
-    requires { ⌜ 2561 ≤ length (now plan) ⌝ }
-    requires { ⌜ end < 128 ⌝ }
+    requires { ⌜ planLength ≤ length (now plan) ⌝ }
+    requires { ⌜ end < mostRows ⌝ }
     requires { ⌜ n ≤ 64 ⌝ }
     requires { ⌜ One (now plan) first end ⌝ }
     ensures { λ r. ⌜ Folds (λ a. foldPower 64 a n) (now (plan .entry)) first end r (now (plan .exit)) ⌝ }
 {
     let root = end - 1;
-    if kind(plan, root) == 0 {
+    if kind(plan, root) == CONSTANT {
         let c = word::power(first_element(plan, root), n);
         put_constant(plan, first, c);
         return first + 1;
@@ -92,8 +99,8 @@ pub fn fold_power(plan: &mut [u64], first: usize, end: usize, n: u64) -> usize
 
 // The operand before row middle to the one behind it: "C by C worked out; C by S becomes a product chain with elements C^fj."
 pub fn fold_raise(plan: &mut [u64], left: usize, middle: usize, end: usize) -> usize
-    requires { ⌜ 2561 ≤ length (now plan) ⌝ }
-    requires { ⌜ end < 128 ⌝ }
+    requires { ⌜ planLength ≤ length (now plan) ⌝ }
+    requires { ⌜ end < mostRows ⌝ }
     requires { ⌜ Two (now plan) left middle end ⌝ }
     ensures { λ r. ⌜ FoldsBoth (foldRaise 64) (now (plan .entry)) left middle end r (now (plan .exit)) ⌝ }
 {
@@ -101,14 +108,14 @@ pub fn fold_raise(plan: &mut [u64], left: usize, middle: usize, end: usize) -> u
     let exponent_root = end - 1;
     let base = kind(plan, base_root);
     let exponent = kind(plan, exponent_root);
-    if base == 0 {
-        if exponent < 2 {
+    if base == CONSTANT {
+        if exponent < PRODUCT_CHAIN {
             let c = first_element(plan, base_root);
-            let f = rows::elements(plan, exponent_root);
+            let f = fold_rows::elements(plan, exponent_root);
             product_rows::put_product(plan, left, word_by_word(Operation::Power, [c; 17], f));
             return left + 1;
         }
     }
-    append(plan, end, 8, base_root as u64, exponent_root as u64);
+    append(plan, end, RAISE, base_root as u64, exponent_root as u64);
     end + 1
 }

@@ -8,8 +8,8 @@ use Rattle.chain.specs.Chain.{value, rest, joined, words}
 use Rattle.chain.specs.ProductChain.{jointProduct, scaledFirst, trimmedProduct}
 use Rattle.chain.proofs.Values.{rest-map}
 use Rattle.chain.proofs.Calls.{length-joined}
-use Rattle.rows.specs.Standing.{filledWithOnes}
-use Rattle.operands.proofs.OnesTrimmed.{words-trimmed}
+use Rattle.fold_rows.specs.Standing.{filledWithOnes}
+use Rattle.fold_operands.proofs.OnesTrimmed.{words-trimmed}
 
 -- ---- filled with ones
 joint-value : (f g : List ℕ) → value 1 (jointProduct f g) ≡ value 1 f * value 1 g

@@ -7,6 +7,7 @@ use native.Mathlib.Omega.{arith}
 use lib.Dec.{eqb, ltb, leb}
 use lib.ListN.{length, take, length-take}
 use borrow.Author.Tests.{eqb-true, ltb-true, leb-true, le-leb, lt-ltb, le-ltb}
+use Rattle.plan.specs.Measures.{rowStart}
 use Rattle.chain.specs.Chain.{words, trimmed}
 use Rattle.chain.specs.SumChain.{product}
 use Rattle.chain.specs.ProductChain.{jointProduct}
@@ -16,16 +17,16 @@ use Rattle.chain.specs.declared.ChainAnswer.{ChainAnswer}
 use Rattle.chain.proofs.Trimming.{length-trimmed}
 use Rattle.plan.specs.Row.{kind, wordA, elements}
 use Rattle.plan.specs.Plan.{row}
-use Rattle.folding.specs.Folded as Folded
-use Rattle.folding.specs.Folded.{Folded, constant, ofProduct, trimmedSum, trimmedProduct}
-use Rattle.folding.specs.Folding.{is, lengthOf, foldProduct}
-use Rattle.folding.specs.Layout.{rowWords}
-use Rattle.folding.proofs.Tests.{either}
-use Rattle.rows.specs.Standing.{rowStart, withRow, placed, movedDown, filledWithOnes}
-use Rattle.rows.proofs.Stood.{kindOf}
-use Rattle.operands.specs.Operands.{Operands, Left}
-use Rattle.operands.proofs.OperandLaws.{is-the-constant, constantAt, operand-kind, operand-last, operand-chain, operand-taken, operand-short, operand-is}
-use Rattle.operands.proofs.Leaving.{left-as, sum-left, product-left, answer-put, stays, moves, product-row-left}
+use Rattle.fold.specs.Folded as Folded
+use Rattle.fold.specs.Folded.{Folded, constant, ofProduct, trimmedSum, trimmedProduct}
+use Rattle.fold.specs.Folding.{is, lengthOf, foldProduct}
+use Rattle.fold.specs.Layout.{rowWords}
+use Rattle.fold.proofs.Tests.{either}
+use Rattle.fold_rows.specs.Standing.{withRow, placed, movedDown, filledWithOnes}
+use Rattle.fold_rows.proofs.Stood.{kindOf}
+use Rattle.fold_operands.specs.Operands.{Operands, Left}
+use Rattle.fold_operands.proofs.OperandLaws.{is-the-constant, constantAt, operand-kind, operand-last, operand-chain, operand-taken, operand-short, operand-is}
+use Rattle.fold_operands.proofs.Leaving.{left-as, sum-left, product-left, answer-put, stays, moves, product-row-left}
 use Rattle.fold_products.proofs.JointElements.{filled-product}
 use Rattle.fold_products.proofs.ProductRules.{isProduct, one-times, times-one, times-zero, Plain, as-sums, as-products, as-row}
 

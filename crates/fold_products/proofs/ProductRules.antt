@@ -15,14 +15,14 @@ use Rattle.chain.proofs.SumLaws.{sum-constant, value-scaled, value-product}
 use Rattle.chain.proofs.Trimming.{value-trimmed-sum, length-trimmed}
 use Rattle.chain.proofs.Canonical.{same-trimmed}
 use Rattle.chain.proofs.Calls.{length-product}
-use Rattle.folding.specs.Folded.{Folded, constant, sumChain, productChain, sumRow, differenceRow, productRow, minusRow, powerRow, raiseRow}
-use Rattle.folding.specs.Folded.{isConstant, isSumChain, isProductChain, elements, ofSum, trimmedSum, trimmedProduct}
-use Rattle.folding.specs.Folding.{wordOf, is, constants, lengthOf, foldProduct}
-use Rattle.folding.specs.Shape.{WellFormed}
-use Rattle.folding.proofs.Rules.{picked}
-use Rattle.folding.proofs.Tests.{shaped, either}
-use Rattle.rows.proofs.Stood.{kindOf, constant-test, sum-chain-test, product-chain-test}
-use Rattle.operands.proofs.OperandLaws.{chain-operand, is-the-constant, Sum, one, several, sum-operand}
+use Rattle.fold.specs.Folded.{Folded, constant, sumChain, productChain, sumRow, differenceRow, productRow, minusRow, powerRow, raiseRow}
+use Rattle.fold.specs.Folded.{isConstant, isSumChain, isProductChain, elements, ofSum, trimmedSum, trimmedProduct}
+use Rattle.fold.specs.Folding.{wordOf, is, constants, lengthOf, foldProduct}
+use Rattle.fold.proofs.Shape.{WellFormed}
+use Rattle.fold.proofs.Rules.{picked}
+use Rattle.fold.proofs.Tests.{shaped, either}
+use Rattle.fold_rows.proofs.Stood.{kindOf, constant-test, sum-chain-test, product-chain-test}
+use Rattle.fold_operands.proofs.OperandLaws.{chain-operand, is-the-constant, Sum, one, several, sum-operand}
 use Rattle.fold_products.proofs.JointElements.{constant-joint, joint-constant}
 
 -- ---- lengths that add to 16 at most

@@ -1,49 +1,52 @@
 // Products of operands that stand at the top of a lent plan.
 // Which node is one of them is decided in `compile`; sums and powers are in `fold_sums` and `fold_powers`.
-use arrays::Operation;
-use operands::append;
-use operands::is_constant;
-use operands::kind;
-use operands::length_of;
-use operands::put_constant;
-use operands::put_sum;
+use chain_arrays::Operation;
+use fold_operands::append;
+use fold_operands::is_constant;
+use fold_operands::kind;
+use fold_operands::length_of;
+use fold_operands::put_constant;
+use fold_operands::put_sum;
+use fold_rows::moved_rows;
+use fold_rows::product_rows;
+use plan_rows::kinds::CONSTANT;
+use plan_rows::kinds::PRODUCT;
+use plan_rows::kinds::PRODUCT_CHAIN;
+use plan_rows::kinds::SUM_CHAIN;
 ghost use mathlib.Core.Path.{_≡_};
 ghost use mathlib.Core.Bool.{_&&_, _||_};
 ghost use Prim.Native.Nat.{_+_, _≤_, _<_};
-ghost use lib.Dec.{eqb, ltb, leb};
-ghost use lib.ListN.{length, getD, take};
+ghost use lib.Dec.{leb};
+ghost use lib.ListN.{length};
+ghost use Rattle.plan.specs.Measures.{planLength, mostRows};
 ghost use Rattle.chain.specs.Chain.{words};
 ghost use Rattle.chain.specs.SumChain.{product};
 ghost use Rattle.chain.specs.ProductChain.{jointProduct};
-ghost use Rattle.chain.specs.Answer.{given};
-ghost use Rattle.plan.specs.Row.{kind, wordA, elements};
+ghost use Rattle.plan.specs.Row.{wordA};
 ghost use Rattle.plan.specs.Plan.{row};
-ghost use Rattle.folding.specs.Folded.{trimmedSum, trimmedProduct};
-ghost use Rattle.folding.specs.Folding.{foldProduct};
-ghost use Rattle.rows.specs.Standing.{placed, filledWithOnes};
-ghost use Rattle.operands.specs.Operands.{Two, FoldsBoth};
+ghost use Rattle.fold.specs.Folded.{trimmedSum, trimmedProduct};
+ghost use Rattle.fold.specs.Folding.{foldProduct};
+ghost use Rattle.fold_rows.specs.Standing.{placed};
+ghost use Rattle.fold_operands.specs.OperandRows.{isConstantRow, isSumRow, isProductRow, sumIn, productIn};
+ghost use Rattle.fold_operands.specs.Operands.{Two, FoldsBoth};
 
 // The product chain in row r, or a constant as its element 0, filled with ones.
 fn filled(plan: &[u64], r: usize) -> [u64; 17]
-    requires { ⌜ 2561 ≤ length (now plan) ⌝ }
-    requires { ⌜ r < 128 ⌝ }
+    requires { ⌜ planLength ≤ length (now plan) ⌝ }
+    requires { ⌜ r < mostRows ⌝ }
     requires { ⌜ wordA (row (now plan) r) ≤ 16 ⌝ }
-    ensures { λ f. ⌜ f ≡ filledWithOnes 17 (take (wordA (row (now (plan .entry)) r) + 1) (elements (row (now (plan .entry)) r))) ⌝ }
+    ensures { λ f. ⌜ f ≡ productIn (row (now (plan .entry)) r) ⌝ }
 {
     let length = length_of(plan, r);
-    product_rows::with_ones(rows::elements(plan, r), length)
+    product_rows::with_ones(fold_rows::elements(plan, r), length)
 }
 
 // One of the rows a and b is the constant 0.
 fn has_zero(plan: &[u64], a: usize, b: usize) -> bool
-    requires { ⌜ 2561 ≤ length (now plan) ⌝ }
-    requires { ⌜ a < 128 ⌝ }
-    requires { ⌜ b < 128 ⌝ }
-    ensures { λ s. ⌜
-        s
-        ≡ (eqb (kind (row (now (plan .entry)) a)) 0 && eqb (getD (row (now (plan .entry)) a) 3 0) 0
-        || eqb (kind (row (now (plan .entry)) b)) 0 && eqb (getD (row (now (plan .entry)) b) 3 0) 0)
-        ⌝ }
+    requires { ⌜ planLength ≤ length (now plan) ⌝ }
+    requires { ⌜ a < mostRows ⌝ }
+    requires { ⌜ b < mostRows ⌝ }
+    ensures { λ s. ⌜ s ≡ (isConstantRow 0 (row (now (plan .entry)) a) || isConstantRow 0 (row (now (plan .entry)) b)) ⌝ }
 {
     if is_constant(plan, a, 0) {
         return true;
@@ -53,20 +56,17 @@ fn has_zero(plan: &[u64], a: usize, b: usize) -> bool
 
 // Rows a and b are constants or sum chains, with lengths that add to 16 at most.
 fn are_sums(plan: &[u64], a: usize, b: usize) -> bool
-    requires { ⌜ 2561 ≤ length (now plan) ⌝ }
-    requires { ⌜ a < 128 ⌝ }
-    requires { ⌜ b < 128 ⌝ }
+    requires { ⌜ planLength ≤ length (now plan) ⌝ }
+    requires { ⌜ a < mostRows ⌝ }
+    requires { ⌜ b < mostRows ⌝ }
     ensures { λ s. ⌜
-        s
-        ≡ (ltb (kind (row (now (plan .entry)) a)) 2
-        && (ltb (kind (row (now (plan .entry)) b)) 2
-        && leb (wordA (row (now (plan .entry)) a) + wordA (row (now (plan .entry)) b)) 16))
+        s ≡ (isSumRow (row (now (plan .entry)) a) && (isSumRow (row (now (plan .entry)) b) && leb (wordA (row (now (plan .entry)) a) + wordA (row (now (plan .entry)) b)) 16))
         ⌝ }
 {
-    if 1 < kind(plan, a) {
+    if SUM_CHAIN < kind(plan, a) {
         return false;
     }
-    if 1 < kind(plan, b) {
+    if SUM_CHAIN < kind(plan, b) {
         return false;
     }
     let length = length_of(plan, a);
@@ -78,26 +78,22 @@ fn are_sums(plan: &[u64], a: usize, b: usize) -> bool
 
 // Row r is a constant or a product chain.
 fn is_product(plan: &[u64], r: usize) -> bool
-    requires { ⌜ 2561 ≤ length (now plan) ⌝ }
-    requires { ⌜ r < 128 ⌝ }
-    ensures { λ s. ⌜ s ≡ (eqb (kind (row (now (plan .entry)) r)) 0 || eqb (kind (row (now (plan .entry)) r)) 2) ⌝ }
+    requires { ⌜ planLength ≤ length (now plan) ⌝ }
+    requires { ⌜ r < mostRows ⌝ }
+    ensures { λ s. ⌜ s ≡ isProductRow (row (now (plan .entry)) r) ⌝ }
 {
     let k = kind(plan, r);
-    if k == 0 {
+    if k == CONSTANT {
         return true;
     }
-    k == 2
+    k == PRODUCT_CHAIN
 }
 
 fn are_products(plan: &[u64], a: usize, b: usize) -> bool
-    requires { ⌜ 2561 ≤ length (now plan) ⌝ }
-    requires { ⌜ a < 128 ⌝ }
-    requires { ⌜ b < 128 ⌝ }
-    ensures { λ s. ⌜
-        s
-        ≡ ((eqb (kind (row (now (plan .entry)) a)) 0 || eqb (kind (row (now (plan .entry)) a)) 2)
-        && (eqb (kind (row (now (plan .entry)) b)) 0 || eqb (kind (row (now (plan .entry)) b)) 2))
-        ⌝ }
+    requires { ⌜ planLength ≤ length (now plan) ⌝ }
+    requires { ⌜ a < mostRows ⌝ }
+    requires { ⌜ b < mostRows ⌝ }
+    ensures { λ s. ⌜ s ≡ (isProductRow (row (now (plan .entry)) a) && isProductRow (row (now (plan .entry)) b)) ⌝ }
 {
     if is_product(plan, a) {
         return is_product(plan, b);
@@ -107,54 +103,51 @@ fn are_products(plan: &[u64], a: usize, b: usize) -> bool
 
 // The product of the sum chains in rows a and b by document 000's rule, in row r.
 fn put_product_of_sums(plan: &mut [u64], r: usize, a: usize, b: usize)
-    requires { ⌜ 2561 ≤ length (now plan) ⌝ }
-    requires { ⌜ r < 128 ⌝ }
-    requires { ⌜ a < 128 ⌝ }
-    requires { ⌜ b < 128 ⌝ }
+    requires { ⌜ planLength ≤ length (now plan) ⌝ }
+    requires { ⌜ r < mostRows ⌝ }
+    requires { ⌜ a < mostRows ⌝ }
+    requires { ⌜ b < mostRows ⌝ }
     requires { ⌜ wordA (row (now plan) a) + wordA (row (now plan) b) ≤ 16 ⌝ }
     ensures { λ _. ⌜
         now (plan .exit)
         ≡ placed (now (plan .entry)) r
-        (trimmedSum
-        (words 64
-        (product (given (elements (row (now (plan .entry)) a)) (wordA (row (now (plan .entry)) a)))
-        (given (elements (row (now (plan .entry)) b)) (wordA (row (now (plan .entry)) b))))))
+        (trimmedSum (words 64 (product (sumIn (row (now (plan .entry)) a)) (sumIn (row (now (plan .entry)) b)))))
         ⌝ }
 {
-    let f = rows::elements(plan, a);
+    let f = fold_rows::elements(plan, a);
     let k = length_of(plan, a);
-    let g = rows::elements(plan, b);
+    let g = fold_rows::elements(plan, b);
     let l = length_of(plan, b);
-    put_sum(plan, r, arithmetic::product(f, k, g, l));
+    put_sum(plan, r, chain_calls::product(f, k, g, l));
 }
 
 // The product of the product chains in rows a and b, in row r.
 fn put_product_of_products(plan: &mut [u64], r: usize, a: usize, b: usize)
-    requires { ⌜ 2561 ≤ length (now plan) ⌝ }
-    requires { ⌜ r < 128 ⌝ }
-    requires { ⌜ a < 128 ⌝ }
-    requires { ⌜ b < 128 ⌝ }
+    requires { ⌜ planLength ≤ length (now plan) ⌝ }
+    requires { ⌜ r < mostRows ⌝ }
+    requires { ⌜ a < mostRows ⌝ }
+    requires { ⌜ b < mostRows ⌝ }
     requires { ⌜ wordA (row (now plan) a) ≤ 16 ⌝ }
     requires { ⌜ wordA (row (now plan) b) ≤ 16 ⌝ }
     ensures { λ _. ⌜
         now (plan .exit)
         ≡ placed (now (plan .entry)) r
-        (trimmedProduct
-        (words 64
-        (jointProduct
-        (filledWithOnes 17 (take (wordA (row (now (plan .entry)) a) + 1) (elements (row (now (plan .entry)) a))))
-        (filledWithOnes 17 (take (wordA (row (now (plan .entry)) b) + 1) (elements (row (now (plan .entry)) b)))))))
+        (trimmedProduct (words 64 (jointProduct (productIn (row (now (plan .entry)) a)) (productIn (row (now (plan .entry)) b)))))
         ⌝ }
 {
     let f = filled(plan, a);
     let g = filled(plan, b);
-    product_rows::put_product(plan, r, arrays::word_by_word(Operation::Product, f, g));
+    product_rows::put_product(
+        plan,
+        r,
+        chain_arrays::word_by_word(Operation::Product, f, g),
+    );
 }
 
 // Constants 1 and 0 first, then sum chains, then product chains; anything else stays a row.
 pub fn fold_product(plan: &mut [u64], left: usize, middle: usize, end: usize) -> usize
-    requires { ⌜ 2561 ≤ length (now plan) ⌝ }
-    requires { ⌜ end < 128 ⌝ }
+    requires { ⌜ planLength ≤ length (now plan) ⌝ }
+    requires { ⌜ end < mostRows ⌝ }
     requires { ⌜ Two (now plan) left middle end ⌝ }
     ensures { λ r. ⌜ FoldsBoth (foldProduct 64) (now (plan .entry)) left middle end r (now (plan .exit)) ⌝ }
 {
@@ -179,6 +172,6 @@ pub fn fold_product(plan: &mut [u64], left: usize, middle: usize, end: usize) ->
         put_product_of_products(plan, left, left_root, right_root);
         return left + 1;
     }
-    append(plan, end, 5, left_root as u64, right_root as u64);
+    append(plan, end, PRODUCT, left_root as u64, right_root as u64);
     end + 1
 }

@@ -7,6 +7,7 @@ use native.Mathlib.Omega.{arith}
 use lib.Dec.{eqb, ltb}
 use lib.ListN.{length, getD, take, set}
 use borrow.Author.Tests.{ltb-true}
+use Rattle.plan.specs.Measures.{rowStart}
 use Rattle.word.specs.Word as Word
 use Rattle.chain.specs.Chain.{trimmed, row}
 use Rattle.chain.specs.SumChain.{difference}
@@ -16,15 +17,15 @@ use Rattle.chain.specs.Answer.{answered, differenceOutcome}
 use Rattle.plan.specs.Row as Row
 use Rattle.plan.specs.Row.{wordA, elements}
 use Rattle.plan.specs.Plan as Plan
-use Rattle.folding.specs.Folded as Folded
-use Rattle.folding.specs.Folded.{Folded, trimmedProduct}
-use Rattle.folding.specs.Folding.{wordOf, is, foldMinus}
-use Rattle.folding.specs.Layout.{rowCount, rowWords, rowsFrom, wordsOf}
-use Rattle.rows.specs.Standing.{rowStart, withRow, placed, filledWithOnes, movedDown}
-use Rattle.rows.proofs.Stood.{kindOf, sum-test, length-words, words-before, words-later, placed-again}
-use Rattle.operands.specs.Operands.{Operand, Operands, Left, Folds}
-use Rattle.operands.proofs.OperandLaws.{constantAt, operand-kind, operand-last, operand-elements, operand-chain, operand-taken, operand-is, sum-operand}
-use Rattle.operands.proofs.Leaving.{left-as, left-operand, sum-left, product-left, answer-put, minus-row-left, stays, moves, sum-row-left, difference-row-left}
+use Rattle.fold.specs.Folded as Folded
+use Rattle.fold.specs.Folded.{Folded, trimmedProduct}
+use Rattle.fold.specs.Folding.{wordOf, is, foldMinus}
+use Rattle.fold.specs.Layout.{rowCount, rowWords, rowsFrom, wordsOf}
+use Rattle.fold_rows.specs.Standing.{withRow, placed, filledWithOnes, movedDown}
+use Rattle.fold_rows.proofs.Stood.{kindOf, sum-test, length-words, words-before, words-later, placed-again}
+use Rattle.fold_operands.specs.Operands.{Operand, Operands, Left, Folds}
+use Rattle.fold_operands.proofs.OperandLaws.{constantAt, operand-kind, operand-last, operand-elements, operand-chain, operand-taken, operand-is, sum-operand}
+use Rattle.fold_operands.proofs.Leaving.{left-as, left-operand, sum-left, product-left, answer-put, minus-row-left, stays, moves, sum-row-left, difference-row-left}
 use Rattle.fold_sums.specs.ByKind.{SumOrDifference, plus, less, foldSumOrDifference, chainOfBoth, bothOutcome, foldAlone, rowOfBoth}
 use Rattle.fold_sums.proofs.SumRules.{both-answer, both-rule, both-otherwise, alone-rows, minus-rule, minus-otherwise}
 use Rattle.fold_sums.proofs.SumRules.{minus-product, filled-first, first-replaced}

@@ -14,18 +14,18 @@ use Rattle.chain.specs.SumChain.{sumAt, difference}
 use Rattle.chain.specs.Answer.{chain, given}
 use Rattle.chain.proofs.Trimming.{value-trimmed-sum, length-trimmed}
 use Rattle.chain.proofs.Calls.{sum-as, difference-as}
-use Rattle.folding.specs.Folded as Folded
-use Rattle.folding.specs.Folded.{Folded, minusRow, isConstant, isSumChain, ofProduct, trimmedSum, trimmedProduct}
-use Rattle.folding.specs.Folding.{wordOf, is, isSum, constants, foldSum, foldDifference, foldMinus}
-use Rattle.folding.specs.Layout.{rowCount}
-use Rattle.folding.proofs.ReadBack.{some-rows}
-use Rattle.rows.specs.Standing.{filledWithOnes}
-use Rattle.rows.proofs.Stood.{kindOf, one-row, no-constant, no-sum-chain, is-product-chain, no-chain}
-use Rattle.operands.proofs.OperandLaws.{Chain, row-taken, Sum, one, several}
-use Rattle.operands.proofs.OnesTrimmed.{filled-trimmed}
+use Rattle.fold.specs.Folded as Folded
+use Rattle.fold.specs.Folded.{Folded, minusRow, isConstant, isSumChain, ofProduct, trimmedSum, trimmedProduct}
+use Rattle.fold.specs.Folding.{wordOf, is, isSum, constants, foldSum, foldDifference, foldMinus}
+use Rattle.fold.specs.Layout.{rowCount}
+use Rattle.fold.proofs.ReadBack.{some-rows}
+use Rattle.fold_rows.specs.Standing.{filledWithOnes}
+use Rattle.fold_rows.proofs.Stood.{kindOf, one-row, no-constant, no-sum-chain, is-product-chain, no-chain}
+use Rattle.fold_operands.proofs.OperandLaws.{Chain, row-taken, Sum, one, several}
+use Rattle.fold_operands.proofs.OnesTrimmed.{filled-trimmed}
 use Rattle.fold_sums.specs.ByKind.{SumOrDifference, plus, less, foldSumOrDifference, chainOfBoth, bothOutcome, foldAlone, rowOfBoth}
 
--- ---- what arithmetic::sum and arithmetic::difference answer on rows of chains: the chains need not be trimmed first
+-- ---- what chain_calls::sum and chain_calls::difference answer on rows of chains: the chains need not be trimmed first
 both-as : {kind : ℕ} → SumOrDifference kind → (w : ℕ) (f f′ g g′ : List ℕ) → ((i : ℕ) → sumAt f i ≡ sumAt f′ i) → ((i : ℕ) → sumAt g i ≡ sumAt g′ i)
     → length f′ ≤ 17 → length g′ ≤ 17 → trimmed 0 (row 17 (chainOfBoth w kind f g)) ≡ trimmed 0 (chainOfBoth w kind f′ g′)
 both-as plus = sum-as

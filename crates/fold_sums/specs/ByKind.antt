@@ -1,4 +1,4 @@
--- Sum and difference as one operator, by the kind of its row. The rules themselves stand in folding, each under its sentence.
+-- Sum and difference as one operator, by the kind of its row. The rules themselves stand in `fold`, each under its sentence.
 use mathlib.Core.Bool.{cond}
 use mathlib.Core.List.{List}
 use Prim.Native.Nat.{ℕ}
@@ -6,8 +6,8 @@ use lib.Dec.{eqb}
 use Rattle.chain.specs.Chain.{words, trimmed}
 use Rattle.chain.specs.SumChain.{sum, difference}
 use Rattle.chain.specs.Answer.{Outcome, chain, unlessLong, given}
-use Rattle.folding.specs.Folded.{Folded, sumRow, differenceRow}
-use Rattle.folding.specs.Folding.{foldSum, foldDifference, foldMinus}
+use Rattle.fold.specs.Folded.{Folded, sumRow, differenceRow}
+use Rattle.fold.specs.Folding.{foldSum, foldDifference, foldMinus}
 
 -- The kinds of + and -.
 pub data SumOrDifference : ℕ → Type 0 where

@@ -3,62 +3,66 @@
 mod minus;
 
 use chain::ChainAnswer;
+use fold_operands::append;
+use fold_operands::is_constant;
+use fold_operands::kind;
+use fold_operands::length_of;
+use fold_operands::put_sum;
+use fold_rows::moved_rows;
 pub use minus::fold_minus;
-use operands::append;
-use operands::is_constant;
-use operands::kind;
-use operands::length_of;
-use operands::put_sum;
+use plan_rows::kinds::PRODUCT_CHAIN;
+use plan_rows::kinds::SUM;
 ghost use mathlib.Core.Path.{_≡_};
 ghost use mathlib.Core.Bool.{_&&_};
 ghost use Prim.Native.Nat.{_≤_, _<_};
 ghost use lib.Dec.{ltb};
 ghost use lib.ListN.{length};
+ghost use Rattle.plan.specs.Measures.{planLength, mostRows};
 ghost use Rattle.chain.specs.Answer.{answered};
 ghost use Rattle.plan.specs.Row.{kind, wordA, elements};
 ghost use Rattle.plan.specs.Plan.{row};
-ghost use Rattle.operands.specs.Operands.{One, Two, Folds, FoldsBoth};
+ghost use Rattle.fold_operands.specs.Operands.{One, Two, Folds, FoldsBoth};
 ghost use Rattle.fold_sums.specs.ByKind.{SumOrDifference, foldSumOrDifference, bothOutcome, foldAlone};
 
 // Both rows are constants or sum chains: kinds 0 and 1.
 fn both_sums(plan: &[u64], a: usize, b: usize) -> bool
-    requires { ⌜ 2561 ≤ length (now plan) ⌝ }
-    requires { ⌜ a < 128 ⌝ }
-    requires { ⌜ b < 128 ⌝ }
+    requires { ⌜ planLength ≤ length (now plan) ⌝ }
+    requires { ⌜ a < mostRows ⌝ }
+    requires { ⌜ b < mostRows ⌝ }
     ensures { λ s. ⌜ s ≡ (ltb (kind (row (now (plan .entry)) a)) 2 && ltb (kind (row (now (plan .entry)) b)) 2) ⌝ }
 {
-    if kind(plan, a) < 2 {
-        return kind(plan, b) < 2;
+    if kind(plan, a) < PRODUCT_CHAIN {
+        return kind(plan, b) < PRODUCT_CHAIN;
     }
     false
 }
 
 // The chains of two rows, a constant standing as f0: "element by element", "and the same under -".
 fn chain_of_both(plan: &[u64], kind: u64, a: usize, b: usize) -> ChainAnswer
-    requires { ⌜ 2561 ≤ length (now plan) ⌝ }
-    requires { ⌜ a < 128 ⌝ }
-    requires { ⌜ b < 128 ⌝ }
+    requires { ⌜ planLength ≤ length (now plan) ⌝ }
+    requires { ⌜ a < mostRows ⌝ }
+    requires { ⌜ b < mostRows ⌝ }
     ensures { λ r. ⌜ r ≡ answered (bothOutcome 64 kind (elements (row (now (plan .entry)) a)) (wordA (row (now (plan .entry)) a))
         (elements (row (now (plan .entry)) b)) (wordA (row (now (plan .entry)) b))) ⌝ }
 {
-    let f = rows::elements(plan, a);
+    let f = fold_rows::elements(plan, a);
     let k = length_of(plan, a);
-    let g = rows::elements(plan, b);
+    let g = fold_rows::elements(plan, b);
     let l = length_of(plan, b);
-    if kind == 3 {
-        return arithmetic::sum(f, k, g, l);
+    if kind == SUM {
+        return chain_calls::sum(f, k, g, l);
     }
-    arithmetic::difference(f, k, g, l)
+    chain_calls::difference(f, k, g, l)
 }
 
 // The operand alone, behind the constant 0: "0+A: A", "0-A: as minus A".
 fn fold_alone(plan: &mut [u64], kind: u64, first: usize, end: usize) -> usize
-    requires { ⌜ 2561 ≤ length (now plan) ⌝ }
-    requires { ⌜ end < 128 ⌝ }
+    requires { ⌜ planLength ≤ length (now plan) ⌝ }
+    requires { ⌜ end < mostRows ⌝ }
     requires { ⌜ One (now plan) first end ⌝ }
     ensures { λ r. ⌜ Folds (foldAlone 64 kind) (now (plan .entry)) first end r (now (plan .exit)) ⌝ }
 {
-    if kind == 3 {
+    if kind == SUM {
         return end;
     }
     fold_minus(plan, first, end)
@@ -67,8 +71,8 @@ fn fold_alone(plan: &mut [u64], kind: u64, first: usize, end: usize) -> usize
 // The operand before row middle plus the one behind it, kind 3, or less it, kind 4: "C+S, S+C, S+S, and the same under -: element by
 // element", "A+0, 0+A, A-0: A", "0-A: as minus A".
 pub fn fold_sum(plan: &mut [u64], kind: u64, left: usize, middle: usize, end: usize) -> usize
-    requires { ⌜ 2561 ≤ length (now plan) ⌝ }
-    requires { ⌜ end < 128 ⌝ }
+    requires { ⌜ planLength ≤ length (now plan) ⌝ }
+    requires { ⌜ end < mostRows ⌝ }
     requires { ⌜ SumOrDifference kind ⌝ }
     requires { ⌜ Two (now plan) left middle end ⌝ }
     ensures { λ r. ⌜ FoldsBoth (foldSumOrDifference 64 kind) (now (plan .entry)) left middle end r (now (plan .exit)) ⌝ }

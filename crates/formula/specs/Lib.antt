@@ -1,12 +1,8 @@
--- What the contracts of the readers cite. A reader has to believe Tree, Grammar, Value, Words and Refusals; Scan and Readers are
--- the forms that the readers' own contracts go by, and Verdict is the answer as one function; proofs/ shows that they say what Grammar
--- and Refusals say.
+-- Formulas: their bytes, tree, grammar, direct value and refusals, and the words of a tree. The scan, and the forms that the readers' own
+-- contracts go by, are in `formula_scan`.
 pub mod Bytes
 pub mod Tree
 pub mod Grammar
 pub mod Value
 pub mod Words
 pub mod Refusals
-pub mod Scan
-pub mod Readers
-pub mod Verdict

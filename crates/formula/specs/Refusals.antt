@@ -12,7 +12,7 @@ use Rattle.formula.specs.Bytes.{openBracket, closeBracket}
 use Rattle.formula.specs.Tree.{Tree, number, sum, difference, product, minus, literalPower, raise, nodes, holdsX}
 use Rattle.formula.specs.Grammar.{Formula}
 use Rattle.formula.specs.Value.{valueFor}
-use Rattle.formula.specs.Words.{treeWords}
+use Rattle.formula.specs.Words.{treeWords, treeLength, mostNodes}
 
 -- How often a byte stands in a text.
 unfoldable pub count : ℕ → List ℕ → ℕ
@@ -59,7 +59,7 @@ pub data Fault (w : ℕ) (s : List ℕ) : ℕ → ℕ → Type 0 where
   number-over : {t : Tree} {p v : ℕ} → Formula s t → Part (number p v) t → 2 ^ w ≤ v → Fault w s 5 p
   exponent-number-over : {t a : Tree} {p n : ℕ} → Formula s t → Part (literalPower a p n) t → 2 ^ w ≤ n → Fault w s 5 (suc p)
   exponent-over : {t a : Tree} {p n : ℕ} → Formula s t → Part (literalPower a p n) t → 64 < n → Fault w s 6 (suc p)
-  too-many : {t : Tree} → Formula s t → 128 < nodes t → Fault w s 7 0
+  too-many : {t : Tree} → Formula s t → mostNodes < nodes t → Fault w s 7 0
   x-in-base : {t a b : Tree} {p : ℕ} → Formula s t → Part (raise a p b) t → holdsX a ≡ true → Fault w s 8 p
   -- With no x in the base, any number may stand for x in its value.
   even-base : {t a b : Tree} {p : ℕ} → Formula s t → Part (raise a p b) t → valueFor w 0 a % 2 ≡ 0 → Fault w s 8 p
@@ -73,9 +73,10 @@ pub record Accepted (w : ℕ) (s : List ℕ) (t : Tree) : Type 0 where
   pub means : Formula s t
   pub faultless : (n p : ℕ) → Fault w s n p → ⊥
 
--- What reading a text into a lent tree answers, and what the lent words are afterwards: 1 (for a lent tree under 257 words), then 2 to 8;
--- "a refusal alters no lent word"; "What lies past the 257 words stays".
+-- What reading a text into a lent tree answers, and what the lent words are afterwards. The call is document 02's, its request Eight, in whose
+-- words "1, a lent tree under 257 words", "for reading then 2 to 8", "What lies past the 257 words or past the text stays"; 01 has "a refusal alters
+-- no lent word".
 pub data Reading (w : ℕ) (s lent : List ℕ) : ReadAnswer → List ℕ → Type 0 where
-  too-short : length lent < 257 → Reading w s lent (record { number = 1; place = 0 }) lent
-  refused : {n p : ℕ} → 257 ≤ length lent → Refused w s n p → Reading w s lent (record { number = n; place = p }) lent
-  accepted : {t : Tree} → 257 ≤ length lent → Accepted w s t → Reading w s lent (record { number = 0; place = 0 }) (treeWords t ++ drop 257 lent)
+  too-short : length lent < treeLength → Reading w s lent (record { number = 1; place = 0 }) lent
+  refused : {n p : ℕ} → treeLength ≤ length lent → Refused w s n p → Reading w s lent (record { number = n; place = p }) lent
+  accepted : {t : Tree} → treeLength ≤ length lent → Accepted w s t → Reading w s lent (record { number = 0; place = 0 }) (treeWords t ++ drop treeLength lent)

@@ -1,24 +1,15 @@
-// What the readers of a formula answer. The grammar, the tree and the refusals are in specs/, their laws in proofs/.
-// The readers themselves are in `digits`, `nodes` and `readers`; `reading` judges a whole text.
+// What reading a formula answers. The grammar, the tree, its value and the refusals are in specs/, laws of theirs in proofs/.
+// The readers themselves are in `formula_digits`, `formula_nodes` and `formula_readers`; `formula_read` judges a whole text.
 
-// A number's end, its value if it fits a word (0 if not), whether it is over, and 1 if it is odd.
-pub struct Numeral {
-    pub at: usize,
-    pub value: u64,
-    pub over: bool,
-    pub odd: u8,
-}
+// The nodes of a tree at most, and the words that a tree takes: the node count, then two words a node.
+pub const MOST_NODES: usize = 128;
 
-// How far a reader came. If `ok`, it read a tree that ends before `at`: whether x stands in it, 1 if its value is odd, the nodes and the
-// least fault so far. If not, no formula goes on past `at`.
-pub struct Found {
-    pub ok: bool,
-    pub variable: bool,
-    pub odd: u8,
-    pub at: usize,
-    pub nodes: usize,
-    pub fault: u64,
-}
+pub const TREE_WORDS: usize = 1 + 2 * MOST_NODES;
+
+// The kinds of nodes that have no operands; the others are those of a plan's rows.
+pub const NUMBER: u64 = 0;
+
+pub const VARIABLE: u64 = 1;
 
 // The refusal's number and place; 0 and 0 if accepted.
 pub struct ReadAnswer {

@@ -5,7 +5,7 @@ use Prim.Native.Nat.{ℕ}
 use Rattle.word.proofs.Unique.{both-are}
 use Rattle.chain.specs.Answer.{answered, trimOutcome, sumOutcome, differenceOutcome, productOutcome, shiftOutcome, coefficientsOutcome, valueAnswer}
 use Rattle.plan.specs.Filling.{fill, costAnswer, soundAnswer}
-use Rattle.compile.proofs.Promise.{compiling-unique}
+use Rattle.fold.proofs.Promise.{compiling-unique}
 use Rattle.probe.specs.Probe.{probeAnswer}
 use Rattle.otterchime.specs.Answers.{CompiledInto, compileWords, fillWords, costWords, soundWords, chainWords, valueWords, probeWords}
 
@@ -15,49 +15,52 @@ compile-unique A B =
     let same = compiling-unique (A .compiles) (B .compiles) in
     (A .laid ∙ ap compileWords (same .0) ∙ sym (B .laid), same .1)
 
--- What a fill promises of answer, table and plan.
-abbrev pub FilledWords : (plan table : List ℕ) (budget : ℕ) (answer table′ plan′ : List ℕ) → Type 0
-FilledWords plan table budget answer table′ plan′ =
-    (answer ≡ fillWords (fill 64 plan table budget .answer))
-    × ((table′ ≡ fill 64 plan table budget .table) × (plan′ ≡ fill 64 plan table budget .plan))
-
+-- Answer, table and plan of a fill.
 pub fill-unique : (plan table : List ℕ) (budget : ℕ) {answer answer′ filled filled′ left left′ : List ℕ}
-    → FilledWords plan table budget answer filled left → FilledWords plan table budget answer′ filled′ left′
+    → let done = fill 64 plan table budget in
+    (answer ≡ fillWords (done .answer)) × ((filled ≡ done .table) × (left ≡ done .plan))
+    → (answer′ ≡ fillWords (done .answer)) × ((filled′ ≡ done .table) × (left′ ≡ done .plan))
     → (answer ≡ answer′) × ((filled ≡ filled′) × (left ≡ left′))
 fill-unique plan table budget A B = (both-are (A .0) (B .0), (both-are (A .1 .0) (B .1 .0), both-are (A .1 .1) (B .1 .1)))
 
 -- ---- the calls that alter nothing but their answer
 module _ (answer answer′ : List ℕ) where
-  -- Both answers are these words.
-  abbrev Both : List ℕ → Type 0
-  Both words = answer ≡ words → answer′ ≡ words → answer ≡ answer′
-
-  pub cost-unique : (plan : List ℕ) → Both (costWords (costAnswer plan))
+  pub cost-unique : (plan : List ℕ)
+      → let words = costWords (costAnswer plan) in answer ≡ words → answer′ ≡ words → answer ≡ answer′
   cost-unique plan = both-are
 
-  pub sound-unique : (plan : List ℕ) → Both (soundWords (soundAnswer plan))
+  pub sound-unique : (plan : List ℕ)
+      → let words = soundWords (soundAnswer plan) in answer ≡ words → answer′ ≡ words → answer ≡ answer′
   sound-unique plan = both-are
 
-  pub trim-unique : (f : List ℕ) (k : ℕ) → Both (chainWords (answered (trimOutcome f k)))
+  pub trim-unique : (f : List ℕ) (k : ℕ)
+      → let words = chainWords (answered (trimOutcome f k)) in answer ≡ words → answer′ ≡ words → answer ≡ answer′
   trim-unique f k = both-are
 
-  pub shift-unique : (f : List ℕ) (k : ℕ) → Both (chainWords (answered (shiftOutcome 64 f k)))
+  pub shift-unique : (f : List ℕ) (k : ℕ)
+      → let words = chainWords (answered (shiftOutcome 64 f k)) in answer ≡ words → answer′ ≡ words → answer ≡ answer′
   shift-unique f k = both-are
 
-  pub value-unique : (f : List ℕ) (k : ℕ) → Both (valueWords (valueAnswer f k))
+  pub value-unique : (f : List ℕ) (k : ℕ)
+      → let words = valueWords (valueAnswer f k) in answer ≡ words → answer′ ≡ words → answer ≡ answer′
   value-unique f k = both-are
 
-  pub sum-unique : (f : List ℕ) (k : ℕ) (g : List ℕ) (l : ℕ) → Both (chainWords (answered (sumOutcome 64 f k g l)))
+  pub sum-unique : (f : List ℕ) (k : ℕ) (g : List ℕ) (l : ℕ)
+      → let words = chainWords (answered (sumOutcome 64 f k g l)) in answer ≡ words → answer′ ≡ words → answer ≡ answer′
   sum-unique f k g l = both-are
 
-  pub difference-unique : (f : List ℕ) (k : ℕ) (g : List ℕ) (l : ℕ) → Both (chainWords (answered (differenceOutcome 64 f k g l)))
+  pub difference-unique : (f : List ℕ) (k : ℕ) (g : List ℕ) (l : ℕ)
+      → let words = chainWords (answered (differenceOutcome 64 f k g l)) in answer ≡ words → answer′ ≡ words → answer ≡ answer′
   difference-unique f k g l = both-are
 
-  pub product-unique : (f : List ℕ) (k : ℕ) (g : List ℕ) (l : ℕ) → Both (chainWords (answered (productOutcome 64 f k g l)))
+  pub product-unique : (f : List ℕ) (k : ℕ) (g : List ℕ) (l : ℕ)
+      → let words = chainWords (answered (productOutcome 64 f k g l)) in answer ≡ words → answer′ ≡ words → answer ≡ answer′
   product-unique f k g l = both-are
 
-  pub from-coefficients-unique : (a : List ℕ) → Both (chainWords (answered (coefficientsOutcome 64 a)))
+  pub from-coefficients-unique : (a : List ℕ)
+      → let words = chainWords (answered (coefficientsOutcome 64 a)) in answer ≡ words → answer′ ≡ words → answer ≡ answer′
   from-coefficients-unique a = both-are
 
-  pub probe-unique : (reading expected tolerance : ℕ) → Both (probeWords (probeAnswer reading expected tolerance))
+  pub probe-unique : (reading expected tolerance : ℕ)
+      → let words = probeWords (probeAnswer reading expected tolerance) in answer ≡ words → answer′ ≡ words → answer ≡ answer′
   probe-unique reading expected tolerance = both-are

@@ -8,8 +8,8 @@ use Rattle.chain.specs.declared.ValueAnswer.{ValueAnswer}
 use Rattle.plan.specs.declared.FillAnswer.{FillAnswer}
 use Rattle.plan.specs.declared.CostAnswer.{CostAnswer}
 use Rattle.plan.specs.declared.SoundAnswer.{SoundAnswer}
-use Rattle.compile.specs.declared.CompileAnswer.{CompileAnswer}
-use Rattle.compile.specs.Compiling.{Compiling}
+use Rattle.fold.specs.declared.CompileAnswer.{CompileAnswer}
+use Rattle.fold.specs.Compiling.{Compiling}
 use Rattle.probe.specs.declared.Verdict.{Verdict}
 use Rattle.probe.specs.declared.Verdict.the-variants.{NoVerdict, Within, Ahead, Behind}
 use Rattle.probe.specs.declared.ProbeAnswer.{ProbeAnswer}
@@ -30,7 +30,10 @@ costWords r = r .number ∷ r .place ∷ r .cost ∷ []
 abbrev pub fillWords : FillAnswer → List ℕ
 fillWords r = r .number ∷ r .place ∷ r .points ∷ r .spent ∷ []
 
--- Number, place, the chain's length, its 17 elements.
+-- Number, place, the chain's length, its 17 elements: 20 words.
+abbrev pub chainAnswerLength : ℕ
+chainAnswerLength = 20
+
 abbrev pub chainWords : ChainAnswer → List ℕ
 chainWords r = r .number ∷ r .place ∷ r .length ∷ r .elements
 

@@ -1,33 +1,43 @@
 // The chain calls of the door. A chain comes as 17 words f and its length k; words past the length are not read.
-// What a call answers is decided in `arithmetic` and `coefficients`; the calls on formulas, plans and readings are in the crate's root.
+// What a call answers is decided in `chain_calls` and `chain_coefficients`; the calls on formulas, plans and readings are in the crate's root.
 use chain::ChainAnswer;
 ghost use mathlib.Core.Path.{_≡_};
+ghost use lib.ListN.{length};
 ghost use Rattle.chain.specs.Answer.{answered, trimOutcome, sumOutcome, differenceOutcome, productOutcome, shiftOutcome, coefficientsOutcome, valueAnswer};
-ghost use Rattle.otterchime.specs.Answers.{chainWords, valueWords};
+ghost use Rattle.otterchime.specs.Answers.{chainAnswerLength, chainWords, valueWords};
 
-// An answer that is a chain is laid out as a row of a plan is: three words and 17 elements.
-fn put(r: ChainAnswer, answer: &mut [u64; 20])
+// The words of an answer that is a chain, and where its elements begin.
+const CHAIN_ANSWER: usize = 20;
+
+const ANSWER_ELEMENTS: usize = 3;
+
+// An answer that is a chain: number, place, length, and the elements.
+fn put(r: ChainAnswer, answer: &mut [u64])
+    requires { ⌜ length (now answer) ≡ chainAnswerLength ⌝ }
     ensures { λ _. ⌜ now (answer .exit) ≡ chainWords r ⌝ }
 {
     let elements = r.elements;
-    rows::write_row(answer, r.number, r.place, r.length as u64, elements);
+    answer[0] = r.number;
+    answer[1] = r.place;
+    answer[2] = r.length as u64;
+    chain_arrays::lay(elements, &mut answer[ANSWER_ELEMENTS..CHAIN_ANSWER]);
 }
 
 // The chain without its trailing zeros.
 #[no_mangle]
-pub extern "C" fn otterchime_trim(f: &[u64; 17], k: u64, answer: &mut [u64; 20])
+pub extern "C" fn otterchime_trim(f: &[u64; 17], k: u64, answer: &mut [u64; CHAIN_ANSWER])
     ensures { λ _. ⌜ now (answer .exit) ≡ chainWords (answered (trimOutcome (now (f .entry)) k)) ⌝ }
 {
-    let r = arithmetic::trim(*f, k as usize);
+    let r = chain_calls::trim(*f, k as usize);
     put(r, answer);
 }
 
 // The chain after one shift.
 #[no_mangle]
-pub extern "C" fn otterchime_shift(f: &[u64; 17], k: u64, answer: &mut [u64; 20])
+pub extern "C" fn otterchime_shift(f: &[u64; 17], k: u64, answer: &mut [u64; CHAIN_ANSWER])
     ensures { λ _. ⌜ now (answer .exit) ≡ chainWords (answered (shiftOutcome 64 (now (f .entry)) k)) ⌝ }
 {
-    let r = arithmetic::shift(*f, k as usize);
+    let r = chain_calls::shift(*f, k as usize);
     put(r, answer);
 }
 
@@ -36,7 +46,7 @@ pub extern "C" fn otterchime_shift(f: &[u64; 17], k: u64, answer: &mut [u64; 20]
 pub extern "C" fn otterchime_value(f: &[u64; 17], k: u64, answer: &mut [u64; 3])
     ensures { λ _. ⌜ now (answer .exit) ≡ valueWords (valueAnswer (now (f .entry)) k) ⌝ }
 {
-    let r = arithmetic::value(*f, k as usize);
+    let r = chain_calls::value(*f, k as usize);
     *answer = [r.number, r.place, r.word];
 }
 
@@ -47,11 +57,11 @@ pub extern "C" fn otterchime_sum(
     k: u64,
     g: &[u64; 17],
     l: u64,
-    answer: &mut [u64; 20],
+    answer: &mut [u64; CHAIN_ANSWER],
 )
     ensures { λ _. ⌜ now (answer .exit) ≡ chainWords (answered (sumOutcome 64 (now (f .entry)) k (now (g .entry)) l)) ⌝ }
 {
-    let r = arithmetic::sum(*f, k as usize, *g, l as usize);
+    let r = chain_calls::sum(*f, k as usize, *g, l as usize);
     put(r, answer);
 }
 
@@ -62,11 +72,11 @@ pub extern "C" fn otterchime_difference(
     k: u64,
     g: &[u64; 17],
     l: u64,
-    answer: &mut [u64; 20],
+    answer: &mut [u64; CHAIN_ANSWER],
 )
     ensures { λ _. ⌜ now (answer .exit) ≡ chainWords (answered (differenceOutcome 64 (now (f .entry)) k (now (g .entry)) l)) ⌝ }
 {
-    let r = arithmetic::difference(*f, k as usize, *g, l as usize);
+    let r = chain_calls::difference(*f, k as usize, *g, l as usize);
     put(r, answer);
 }
 
@@ -77,19 +87,22 @@ pub extern "C" fn otterchime_product(
     k: u64,
     g: &[u64; 17],
     l: u64,
-    answer: &mut [u64; 20],
+    answer: &mut [u64; CHAIN_ANSWER],
 )
     ensures { λ _. ⌜ now (answer .exit) ≡ chainWords (answered (productOutcome 64 (now (f .entry)) k (now (g .entry)) l)) ⌝ }
 {
-    let r = arithmetic::product(*f, k as usize, *g, l as usize);
+    let r = chain_calls::product(*f, k as usize, *g, l as usize);
     put(r, answer);
 }
 
 // The chain of the polynomial with these coefficients in the index.
 #[no_mangle]
-pub extern "C" fn otterchime_from_coefficients(coefficients: &[u64], answer: &mut [u64; 20])
+pub extern "C" fn otterchime_from_coefficients(
+    coefficients: &[u64],
+    answer: &mut [u64; CHAIN_ANSWER],
+)
     ensures { λ _. ⌜ now (answer .exit) ≡ chainWords (answered (coefficientsOutcome 64 (now (coefficients .entry)))) ⌝ }
 {
-    let r = coefficients::from_coefficients(coefficients);
+    let r = chain_coefficients::from_coefficients(coefficients);
     put(r, answer);
 }

@@ -1,4 +1,4 @@
-// The door: every public call of the box once more, for C, in one style. Numbers and slices come in, and the answer goes into lent words:
+// The door: the calls on formulas, plans, chains and readings once more, for C, in one style. Numbers and slices come in, and the answer goes into lent words:
 // word 0 the refusal's number, word 1 its place, then the call's own words (specs/Answers.antt).
 // Compiling, filling and the probe are here, the chain calls in `chains`.
 mod chains;
@@ -36,7 +36,7 @@ pub extern "C" fn otterchime_fill(
     ensures { λ _. ⌜ now (table .exit) ≡ fill 64 (now (plan .entry)) (now (table .entry)) budget .table ⌝ }
     ensures { λ _. ⌜ now (plan .exit) ≡ fill 64 (now (plan .entry)) (now (table .entry)) budget .plan ⌝ }
 {
-    let r = filling::fill(plan, table, budget);
+    let r = plan_fill::fill(plan, table, budget);
     *answer = [r.number, r.place, r.points as u64, r.spent];
 }
 
@@ -45,7 +45,7 @@ pub extern "C" fn otterchime_fill(
 pub extern "C" fn otterchime_cost(plan: &[u64], answer: &mut [u64; 3])
     ensures { λ _. ⌜ now (answer .exit) ≡ costWords (costAnswer (now (plan .entry))) ⌝ }
 {
-    let r = filling::cost(plan);
+    let r = plan_fill::cost(plan);
     *answer = [r.number, r.place, r.cost];
 }
 
@@ -54,7 +54,7 @@ pub extern "C" fn otterchime_cost(plan: &[u64], answer: &mut [u64; 3])
 pub extern "C" fn otterchime_sound(plan: &[u64], answer: &mut [u64; 2])
     ensures { λ _. ⌜ now (answer .exit) ≡ soundWords (soundAnswer (now (plan .entry))) ⌝ }
 {
-    let r = soundness::sound(plan);
+    let r = plan_sound::sound(plan);
     *answer = [r.number, r.place];
 }
 

@@ -9,6 +9,7 @@ use lib.Dec.{ltb, eqb}
 use lib.ListN.{length, drop}
 use lib.Seq.{length-take-le}
 use borrow.Author.Tests.{ltb-false, eq-eqb, ne-eqb}
+use Rattle.plan.specs.Measures.{planLength}
 use Rattle.plan.specs.declared.FillAnswer.{FillAnswer}
 use Rattle.plan.specs.declared.CostAnswer.{CostAnswer}
 use Rattle.plan.specs.Plan.{sound, cost, refusal}
@@ -17,12 +18,12 @@ use Rattle.plan.proofs.RowLaws.{part, partPut}
 
 -- ---- refusal
 -- A plan that is not refused is long enough and sound.
-pub accepted : (p : List ℕ) → refusal p ≡ 0 → (2561 ≤ length p) × (sound p ≡ true)
-accepted p = judged (ltb (length p) 2561) (sound p) refl
+pub accepted : (p : List ℕ) → refusal p ≡ 0 → (planLength ≤ length p) × (sound p ≡ true)
+accepted p = judged (ltb (length p) planLength) (sound p) refl
   where
-    judged : (short good : Bool) → ltb (length p) 2561 ≡ short → cond {A = ℕ} short 1 (cond good 0 9) ≡ 0 → (2561 ≤ length p) × (good ≡ true)
+    judged : (short good : Bool) → ltb (length p) planLength ≡ short → cond {A = ℕ} short 1 (cond good 0 9) ≡ 0 → (planLength ≤ length p) × (good ≡ true)
     judged true good e h = absurd (suc-ne-zero 0 h)
-    judged false true e h = (ltb-false (length p) 2561 e, refl)
+    judged false true e h = (ltb-false (length p) planLength e, refl)
     judged false false e h = absurd (suc-ne-zero 8 h)
 
 -- ---- cost

@@ -2,23 +2,24 @@
 use mathlib.Core.Path.{_≡_, refl, sym, ap, ap₂, _∙_}
 use mathlib.Core.Bool.{Bool, true, false, cond, _&&_, _||_, true≢false}
 use mathlib.Core.List.{List, [], _∷_, _++_, map, map-append, append-assoc}
-use Prim.Native.Nat.{ℕ, zero, suc, _+_, _-_, _*_, _%_, _^_, _<_}
+use Prim.Native.Nat.{ℕ, zero, suc, _+_, _-_, _*_, _%_, _^_, _≤_, _<_}
 use native.Mathlib.Nat.{zero-add, suc-add, suc-inj, suc-ne-zero, add-comm}
 use native.Mathlib.Omega.{arith}
 use lib.Dec.{eqb, ltb}
 use lib.ListN.{length, getD, take, drop, length-map, length-append, take-append-drop, List·getD-map}
-use lib.Seq.{slice, take-add, drop-drop, getD-take, length-front}
+use lib.Seq.{slice, take-add, take-take, drop-drop, getD-take, length-front}
 use borrow.Author.Tests.{eqb-true}
+use Rattle.plan.specs.Measures.{elementsStart, elementCount, planLength, rowLength, mostRows, rowStart}
 use Rattle.chain.specs.Chain.{shift, words}
 use Rattle.chain.specs.SumChain.{sumShift}
 use Rattle.chain.specs.ProductChain.{productShift}
 use Rattle.chain.proofs.Shifting.{length-shift}
-use Rattle.plan.specs.Row.{Row, kind, wordA, wordB, elements, isChain, rowCost, elementsUsed}
+use Rattle.plan.specs.Row.{Row, kind, wordA, wordB, elements, firstElement, isChain, rowCost, elementsUsed}
 use Rattle.plan.specs.Row.{between, allZero, keepsTable, oddConstant, soundBase, soundRow}
 use Rattle.plan.specs.Plan.{rowCount, row, rowsFrom, rows, soundFrom, sound, costOf, cost, refusal}
 use Rattle.plan.specs.Points.{withChain, chainOf, shiftedRow, shiftedFrom, shiftedPlan}
 use Rattle.plan.specs.Filling.{planAfter}
-use Rattle.plan.proofs.RowLaws.{part, partPut, slice-part, part-put, rowPart, row-part, row-at}
+use Rattle.plan.proofs.RowLaws.{part, partPut, slice-part, part-put, row-part, row-at}
 
 -- ---- two lists as long as the parts of a third: put together they are cut at the same place
 pub take-front : (n : ℕ) (l e g : List ℕ) → length e ≡ length (take n l) → length g ≡ length (drop n l) → take n (e ++ g) ≡ e
@@ -39,21 +40,35 @@ drop-front (suc n) [] (x ∷ e) g h k = absurd (suc-ne-zero (length e) h)
 drop-front (suc n) (y ∷ l) [] g h k = absurd (suc-ne-zero (length (take n l)) (sym h))
 drop-front (suc n) (y ∷ l) (x ∷ e) g h k = drop-front n l e g (suc-inj h) k
 
+-- The words after the first n, cut at a later place.
+cut : (n m : ℕ) (l : List ℕ) → n ≤ m → drop n l ≡ drop n (take m l) ++ drop m l
+cut zero m l h = sym (take-append-drop m l)
+cut (suc n) zero l h = absurd (omega arith)
+cut (suc n) (suc m) [] h = refl
+cut (suc n) (suc m) (a ∷ l) h = cut n m l (omega arith)
+
 -- ---- one row
-chain-end : (row : Row) → 4 + wordA row ≡ 3 + (1 + wordA row)
+-- The elements that a chain's row uses, as the code lends them and puts them back.
+chain-end : (row : Row) → elementsStart + (1 + wordA row) - elementsStart ≡ 1 + wordA row
 chain-end row = omega arith
 
--- The elements that a chain's row uses, as the code lends them and puts them back.
-pub chain-part : (row : Row) → part 3 (4 + wordA row) row ≡ chainOf row
-chain-part row = ap (λ n. take n (drop 3 row)) count
+chain-part : (row : Row) → wordA row < elementCount → part elementsStart (elementsStart + (1 + wordA row)) row ≡ chainOf row
+chain-part row h =
+    ap (λ n. take n (drop elementsStart row)) (chain-end row)
+    ∙ sym (take-take (1 + wordA row) elementCount (drop elementsStart row) (omega arith))
+
+chain-put : (row : Row) (f : List ℕ) → wordA row < elementCount
+    → partPut elementsStart (elementsStart + (1 + wordA row)) row f ≡ withChain row f
+chain-put row f h =
+    ap (λ n. take elementsStart row ++ (f ++ drop n (drop elementsStart row))) (chain-end row)
+    ∙ ap (λ g. take elementsStart row ++ g) (ap (λ g. f ++ g) behind ∙ sym (append-assoc f _ _))
   where
-    count : 4 + wordA row - 3 ≡ 1 + wordA row
-    count = omega arith
+    behind : drop (1 + wordA row) (drop elementsStart row) ≡ drop (1 + wordA row) (elements row) ++ drop (elementsStart + elementCount) row
+    behind =
+        cut (1 + wordA row) elementCount (drop elementsStart row) (omega arith)
+        ∙ ap (λ g. drop (1 + wordA row) (elements row) ++ g) (drop-drop elementCount elementsStart row)
 
-pub chain-put : (row : Row) (f : List ℕ) → partPut 3 (4 + wordA row) row f ≡ withChain row f
-chain-put row f = part-put 3 (4 + wordA row) row f (omega arith)
-
--- A row with its chain shifted, by + or by *: what comes before the elements, and what comes after the chain, stays in its place.
+-- A row with its chain shifted, by + or by *: what comes before the elements, after the chain and after the elements stays in its place.
 module _ (_⊙_ : ℕ → ℕ → ℕ) (w : ℕ) (row : Row) where
   chain : List ℕ
   chain = words w (shift _⊙_ (chainOf row))
@@ -62,33 +77,50 @@ module _ (_⊙_ : ℕ → ℕ → ℕ) (w : ℕ) (row : Row) where
   unfolding chain
   length-chain = length-map (shift _⊙_ (chainOf row)) (λ a. a % 2 ^ w) ∙ length-shift _⊙_ (chainOf row)
 
-  after : drop (4 + wordA row) row ≡ drop (1 + wordA row) (elements row)
-  after = ap (λ n. drop n row) (chain-end row) ∙ sym (drop-drop (1 + wordA row) 3 row)
+  new : List ℕ
+  new = chain ++ drop (1 + wordA row) (elements row)
 
-  length-elements : length (chain ++ drop (4 + wordA row) row) ≡ length (elements row)
-  length-elements = ap (λ f. length (chain ++ f)) after ∙ length-front (elements row) chain (1 + wordA row) length-chain
+  rest : List ℕ
+  rest = drop (elementsStart + elementCount) row
 
-  whole : withChain row chain ≡ take 3 row ++ (chain ++ drop (4 + wordA row) row)
-  whole = append-assoc (take 3 row) chain (drop (4 + wordA row) row)
+  length-new : length new ≡ length (elements row)
+  unfolding new
+  length-new = length-front (elements row) chain (1 + wordA row) length-chain
 
-  first : take 3 (withChain row chain) ≡ take 3 row
-  first = ap (λ f. take 3 f) whole ∙ take-front 3 row (take 3 row) (chain ++ drop (4 + wordA row) row) refl length-elements
+  rest-behind : rest ≡ drop elementCount (drop elementsStart row)
+  unfolding rest
+  rest-behind = sym (drop-drop elementCount elementsStart row)
 
-  later : elements (withChain row chain) ≡ chain ++ drop (4 + wordA row) row
-  later = ap (λ f. drop 3 f) whole ∙ drop-front 3 row (take 3 row) (chain ++ drop (4 + wordA row) row) refl length-elements
+  length-behind : length (new ++ rest) ≡ length (drop elementsStart row)
+  length-behind =
+      length-append new rest
+      ∙ ap₂ _+_ length-new (ap length rest-behind)
+      ∙ sym (length-append (elements row) (drop elementCount (drop elementsStart row)))
+      ∙ ap length (take-append-drop elementCount (drop elementsStart row))
+
+  first : take elementsStart (withChain row chain) ≡ take elementsStart row
+  unfolding new rest
+  first = take-front elementsStart row (take elementsStart row) (new ++ rest) refl length-behind
+
+  later : elements (withChain row chain) ≡ new
+  unfolding new rest
+  later =
+      ap (λ f. take elementCount f) (drop-front elementsStart row (take elementsStart row) (new ++ rest) refl length-behind)
+      ∙ take-front elementCount (drop elementsStart row) new rest length-new (ap length rest-behind)
 
   past : drop (1 + wordA row) (elements (withChain row chain)) ≡ drop (1 + wordA row) (elements row)
+  unfolding new
   past =
-      ap (λ f. drop (1 + wordA row) f) (later ∙ ap (λ f. chain ++ f) after)
+      ap (λ f. drop (1 + wordA row) f) later
       ∙ drop-front (1 + wordA row) (elements row) chain (drop (1 + wordA row) (elements row)) length-chain refl
 
   long : length (withChain row chain) ≡ length row
+  unfolding new rest
   long =
-      ap length whole
-      ∙ length-append (take 3 row) (chain ++ drop (4 + wordA row) row)
-      ∙ ap (λ n. length (take 3 row) + n) length-elements
-      ∙ sym (length-append (take 3 row) (elements row))
-      ∙ ap length (take-append-drop 3 row)
+      length-append (take elementsStart row) (new ++ rest)
+      ∙ ap (λ n. length (take elementsStart row) + n) length-behind
+      ∙ sym (length-append (take elementsStart row) (drop elementsStart row))
+      ∙ ap length (take-append-drop elementsStart row)
 
 -- What a shift makes of a row, by its kind.
 pub shifted-sum : (w : ℕ) (row : Row) → kind row ≡ 1 → shiftedRow w row ≡ withChain row (words w (sumShift (chainOf row)))
@@ -98,6 +130,20 @@ shifted-sum w row e = rw e
 pub shifted-product : (w : ℕ) (row : Row) → kind row ≡ 2 → shiftedRow w row ≡ withChain row (words w (productShift (chainOf row)))
 unfolding shiftedRow
 shifted-product w row e = rw e
+
+-- The chain as the code shifts it, lent as a part of the row.
+abbrev pub chainEnd : Row → ℕ
+chainEnd row = elementsStart + (1 + wordA row)
+
+pub sum-put : (w : ℕ) (row : Row) {f : List ℕ} → kind row ≡ 1 → wordA row < elementCount
+    → f ≡ words w (sumShift (part elementsStart (chainEnd row) row)) → partPut elementsStart (chainEnd row) row f ≡ shiftedRow w row
+sum-put w row {f} k h e =
+    chain-put row f h ∙ ap (withChain row) (e ∙ ap (λ g. words w (sumShift g)) (chain-part row h)) ∙ sym (shifted-sum w row k)
+
+pub product-put : (w : ℕ) (row : Row) {f : List ℕ} → kind row ≡ 2 → wordA row < elementCount
+    → f ≡ words w (productShift (part elementsStart (chainEnd row) row)) → partPut elementsStart (chainEnd row) row f ≡ shiftedRow w row
+product-put w row {f} k h e =
+    chain-put row f h ∙ ap (withChain row) (e ∙ ap (λ g. words w (productShift g)) (chain-part row h)) ∙ sym (shifted-product w row k)
 
 pub shifted-other : (w : ℕ) (row : Row) → isChain (kind row) ≡ false → shiftedRow w row ≡ row
 unfolding shiftedRow
@@ -124,12 +170,12 @@ by-kind P w row sum product same =
 pub length-shifted : (w : ℕ) (row : Row) → length (shiftedRow w row) ≡ length row
 length-shifted w row = by-kind (λ x. length x ≡ length row) w row (λ _. long _+_ w row) (λ _. long _*_ w row) refl
 
-pub first-shifted : (w : ℕ) (row : Row) → take 3 (shiftedRow w row) ≡ take 3 row
-first-shifted w row = by-kind (λ x. take 3 x ≡ take 3 row) w row (λ _. first _+_ w row) (λ _. first _*_ w row) refl
+pub first-shifted : (w : ℕ) (row : Row) → take elementsStart (shiftedRow w row) ≡ take elementsStart row
+first-shifted w row = by-kind (λ x. take elementsStart x ≡ take elementsStart row) w row (λ _. first _+_ w row) (λ _. first _*_ w row) refl
 
-entry-shifted : (w : ℕ) (row : Row) (i : ℕ) → i < 3 → getD (shiftedRow w row) i 0 ≡ getD row i 0
+entry-shifted : (w : ℕ) (row : Row) (i : ℕ) → i < elementsStart → getD (shiftedRow w row) i 0 ≡ getD row i 0
 entry-shifted w row i h =
-    sym (getD-take 3 (shiftedRow w row) i 0 h) ∙ ap (λ f. getD f i 0) (first-shifted w row) ∙ getD-take 3 row i 0 h
+    sym (getD-take elementsStart (shiftedRow w row) i 0 h) ∙ ap (λ f. getD f i 0) (first-shifted w row) ∙ getD-take elementsStart row i 0 h
 
 pub kind-shifted : (w : ℕ) (row : Row) → kind (shiftedRow w row) ≡ kind row
 kind-shifted w row = entry-shifted w row 0 (omega arith)
@@ -151,75 +197,75 @@ pub length-from : (w n : ℕ) (f : List ℕ) → length (shiftedFrom w n f) ≡ 
 unfolding shiftedFrom
 length-from w zero f = refl
 length-from w (suc n) f =
-    length-append (shiftedRow w (take 20 f)) (shiftedFrom w n (drop 20 f))
-    ∙ ap₂ _+_ (length-shifted w (take 20 f)) (length-from w n (drop 20 f))
-    ∙ sym (length-append (take 20 f) (drop 20 f))
-    ∙ ap length (take-append-drop 20 f)
+    length-append (shiftedRow w (take rowLength f)) (shiftedFrom w n (drop rowLength f))
+    ∙ ap₂ _+_ (length-shifted w (take rowLength f)) (length-from w n (drop rowLength f))
+    ∙ sym (length-append (take rowLength f) (drop rowLength f))
+    ∙ ap length (take-append-drop rowLength f)
 
 -- Row 0 of shifted rows is row 0 shifted, and after it come the later rows shifted.
-row-front : (w n : ℕ) (f : List ℕ) → take 20 (shiftedFrom w (suc n) f) ≡ shiftedRow w (take 20 f)
+row-front : (w n : ℕ) (f : List ℕ) → take rowLength (shiftedFrom w (suc n) f) ≡ shiftedRow w (take rowLength f)
 unfolding shiftedFrom
 row-front w n f =
-    take-front 20 f (shiftedRow w (take 20 f)) (shiftedFrom w n (drop 20 f)) (length-shifted w (take 20 f)) (length-from w n (drop 20 f))
+    take-front rowLength f (shiftedRow w (take rowLength f)) (shiftedFrom w n (drop rowLength f)) (length-shifted w (take rowLength f)) (length-from w n (drop rowLength f))
 
-row-later : (w n : ℕ) (f : List ℕ) → drop 20 (shiftedFrom w (suc n) f) ≡ shiftedFrom w n (drop 20 f)
+row-later : (w n : ℕ) (f : List ℕ) → drop rowLength (shiftedFrom w (suc n) f) ≡ shiftedFrom w n (drop rowLength f)
 unfolding shiftedFrom
 row-later w n f =
-    drop-front 20 f (shiftedRow w (take 20 f)) (shiftedFrom w n (drop 20 f)) (length-shifted w (take 20 f)) (length-from w n (drop 20 f))
+    drop-front rowLength f (shiftedRow w (take rowLength f)) (shiftedFrom w n (drop rowLength f)) (length-shifted w (take rowLength f)) (length-from w n (drop rowLength f))
 
 pub rows-shifted : (w n : ℕ) (f : List ℕ) → rowsFrom n (shiftedFrom w n f) ≡ map (shiftedRow w) (rowsFrom n f)
 unfolding rowsFrom
 rows-shifted w zero f = refl
 rows-shifted w (suc n) f =
-    ap₂ {C = List Row} _∷_ (row-front w n f) (ap (rowsFrom n) (row-later w n f) ∙ rows-shifted w n (drop 20 f))
+    ap₂ {C = List Row} _∷_ (row-front w n f) (ap (rowsFrom n) (row-later w n f) ∙ rows-shifted w n (drop rowLength f))
 
--- Twenty words more.
-turns : (n : ℕ) → 20 * suc n ≡ 20 + 20 * n
+-- One row more.
+turns : (n : ℕ) → rowLength * suc n ≡ rowLength + rowLength * n
 turns n = omega arith
 
 -- The words after n rows shifted stay.
-pub past-rows : (w n : ℕ) (f : List ℕ) → drop (20 * n) (shiftedFrom w n f) ≡ drop (20 * n) f
+pub past-rows : (w n : ℕ) (f : List ℕ) → drop (rowLength * n) (shiftedFrom w n f) ≡ drop (rowLength * n) f
 unfolding shiftedFrom
 past-rows w zero f = refl
 past-rows w (suc n) f =
     ap (λ k. drop k (shiftedFrom w (suc n) f)) (turns n)
-    ∙ sym (drop-drop (20 * n) 20 (shiftedFrom w (suc n) f))
-    ∙ ap (drop (20 * n)) (row-later w n f)
-    ∙ past-rows w n (drop 20 f)
-    ∙ drop-drop (20 * n) 20 f
+    ∙ sym (drop-drop (rowLength * n) rowLength (shiftedFrom w (suc n) f))
+    ∙ ap (drop (rowLength * n)) (row-later w n f)
+    ∙ past-rows w n (drop rowLength f)
+    ∙ drop-drop (rowLength * n) rowLength f
     ∙ ap (λ k. drop k f) (sym (turns n))
 
 -- n rows shifted and then m more.
-pub from-add : (w n m : ℕ) (f : List ℕ) → shiftedFrom w (n + m) f ≡ take (20 * n) (shiftedFrom w n f) ++ shiftedFrom w m (drop (20 * n) f)
+pub from-add : (w n m : ℕ) (f : List ℕ) → shiftedFrom w (n + m) f ≡ take (rowLength * n) (shiftedFrom w n f) ++ shiftedFrom w m (drop (rowLength * n) f)
 unfolding shiftedFrom
 from-add w zero m f = rw (zero-add m)
 from-add w (suc n) m f =
     ap (λ k. shiftedFrom w k f) (suc-add n m)
-    ∙ ap (λ g. shiftedRow w (take 20 f) ++ g) (from-add w n m (drop 20 f))
-    ∙ sym (append-assoc (shiftedRow w (take 20 f)) (take (20 * n) (shiftedFrom w n (drop 20 f))) (shiftedFrom w m (drop (20 * n) (drop 20 f))))
-    ∙ ap₂ _++_ (sym front) (ap (shiftedFrom w m) (drop-drop (20 * n) 20 f ∙ ap (λ k. drop k f) (sym (turns n))))
+    ∙ ap (λ g. shiftedRow w (take rowLength f) ++ g) (from-add w n m (drop rowLength f))
+    ∙ sym (append-assoc (shiftedRow w (take rowLength f)) (take (rowLength * n) (shiftedFrom w n (drop rowLength f))) (shiftedFrom w m (drop (rowLength * n) (drop rowLength f))))
+    ∙ ap₂ _++_ (sym front) (ap (shiftedFrom w m) (drop-drop (rowLength * n) rowLength f ∙ ap (λ k. drop k f) (sym (turns n))))
   where
-    front : take (20 * suc n) (shiftedFrom w (suc n) f) ≡ shiftedRow w (take 20 f) ++ take (20 * n) (shiftedFrom w n (drop 20 f))
+    front : take (rowLength * suc n) (shiftedFrom w (suc n) f) ≡ shiftedRow w (take rowLength f) ++ take (rowLength * n) (shiftedFrom w n (drop rowLength f))
     front =
         ap (λ k. take k (shiftedFrom w (suc n) f)) (turns n)
-        ∙ take-add 20 (20 * n) (shiftedFrom w (suc n) f)
-        ∙ ap₂ (λ a b. a ++ take (20 * n) b) (row-front w n f) (row-later w n f)
+        ∙ take-add rowLength (rowLength * n) (shiftedFrom w (suc n) f)
+        ∙ ap₂ (λ a b. a ++ take (rowLength * n) b) (row-front w n f) (row-later w n f)
 
 -- A loop that shifts row after row: row r is not shifted yet, and shifting it leaves r + 1 rows shifted.
-pub row-waits : (w r : ℕ) (f : List ℕ) → take 20 (drop (20 * r) (shiftedFrom w r f)) ≡ take 20 (drop (20 * r) f)
-row-waits w r f = ap (λ g. take 20 g) (past-rows w r f)
+pub row-waits : (w r : ℕ) (f : List ℕ) → take rowLength (drop (rowLength * r) (shiftedFrom w r f)) ≡ take rowLength (drop (rowLength * r) f)
+row-waits w r f = ap (λ g. take rowLength g) (past-rows w r f)
 
 pub shift-step : (w r : ℕ) (f : List ℕ)
     → shiftedFrom w (r + 1) f
-    ≡ take (20 * r) (shiftedFrom w r f) ++ shiftedRow w (take 20 (drop (20 * r) (shiftedFrom w r f))) ++ drop (20 * r + 20) (shiftedFrom w r f)
+    ≡ take (rowLength * r) (shiftedFrom w r f) ++ shiftedRow w (take rowLength (drop (rowLength * r) (shiftedFrom w r f))) ++ drop (rowLength * r + rowLength) (shiftedFrom w r f)
 unfolding shiftedFrom
 shift-step w r f =
     from-add w r 1 f
-    ∙ ap (λ g. take (20 * r) (shiftedFrom w r f) ++ (shiftedRow w (take 20 g) ++ drop 20 g)) (sym (past-rows w r f))
-    ∙ seam (20 * r) (shiftedFrom w r f) (shiftedRow w (take 20 (drop (20 * r) (shiftedFrom w r f))))
+    ∙ ap (λ g. take (rowLength * r) (shiftedFrom w r f) ++ (shiftedRow w (take rowLength g) ++ drop rowLength g)) (sym (past-rows w r f))
+    ∙ seam (rowLength * r) (shiftedFrom w r f) (shiftedRow w (take rowLength (drop (rowLength * r) (shiftedFrom w r f))))
   where
-    seam : (k : ℕ) (g row : List ℕ) → take k g ++ (row ++ drop 20 (drop k g)) ≡ take k g ++ row ++ drop (k + 20) g
-    seam k g row = ap (λ h. take k g ++ (row ++ h)) (drop-drop 20 k g) ∙ sym (append-assoc (take k g) row (drop (k + 20) g))
+    seam : (k : ℕ) (g row : List ℕ) → take k g ++ (row ++ drop rowLength (drop k g)) ≡ take k g ++ row ++ drop (k + rowLength) g
+    seam k g row = ap (λ h. take k g ++ (row ++ h)) (drop-drop rowLength k g) ∙ sym (append-assoc (take k g) row (drop (k + rowLength) g))
 
 -- ---- soundness and cost of rows
 keeps-shifted : (w r : ℕ) (row : Row) → keepsTable r (shiftedRow w row) ≡ keepsTable r row
@@ -228,8 +274,8 @@ keeps-shifted w r row = rw (kind-shifted w row, a-shifted w row, b-shifted w row
 odd-shifted : (w : ℕ) (row : Row) → oddConstant (shiftedRow w row) ≡ oddConstant row
 odd-shifted w row = rw (kind-shifted w row) (constant (eqb (kind row) 0) refl)
   where
-    constant : (b : Bool) → eqb (kind row) 0 ≡ b → (b && eqb (getD (shiftedRow w row) 3 0 % 2) 1) ≡ (b && eqb (getD row 3 0 % 2) 1)
-    constant true e = ap (λ x. eqb (getD x 3 0 % 2) 1) (shifted-other w row (ap (λ k. isChain k) (eqb-true (kind row) 0 e)))
+    constant : (b : Bool) → eqb (kind row) 0 ≡ b → (b && eqb (firstElement (shiftedRow w row) % 2) 1) ≡ (b && eqb (firstElement row % 2) 1)
+    constant true e = ap (λ x. eqb (firstElement x % 2) 1) (shifted-other w row (ap (λ k. isChain k) (eqb-true (kind row) 0 e)))
     constant false e = refl
 
 nothing : (w : ℕ) → shiftedRow w [] ≡ []
@@ -301,50 +347,52 @@ count-to w r p = sym (getD-take 1 (shiftedTo w r p) 0 0 (omega arith)) ∙ ap (�
 row-to : (w r : ℕ) (p : List ℕ) → row (shiftedTo w r p) r ≡ row p r
 row-to w r p =
     row-at (shiftedTo w r p) r
-    ∙ ap (λ f. take 20 (drop (20 * r) f)) (rows-to w r p)
+    ∙ ap (λ f. take rowLength (drop (rowLength * r) f)) (rows-to w r p)
     ∙ row-waits w r (drop 1 p)
     ∙ sym (row-at p r)
 
-pub waiting : (w r : ℕ) (p : List ℕ) {q : List ℕ} → q ≡ shiftedTo w r p → rowPart p r ≡ rowPart q r
-waiting w r p {q} e = sym (row-part p r) ∙ sym (row-to w r p) ∙ ap (λ l. row l r) (sym e) ∙ row-part q r
+pub waiting : (w r : ℕ) (p : List ℕ) {q : List ℕ} {at : ℕ} → q ≡ shiftedTo w r p → at ≡ rowStart r → part at (at + rowLength) q ≡ row p r
+waiting w r p {q} e place =
+    ap (λ k. part k (k + rowLength) q) place ∙ sym (row-part q r) ∙ ap (λ l. row l r) e ∙ row-to w r p
 
 step-to : (w r : ℕ) (p : List ℕ)
     → shiftedTo w (r + 1) p
-    ≡ take (1 + 20 * r) (shiftedTo w r p) ++ shiftedRow w (row (shiftedTo w r p) r) ++ drop (21 + 20 * r) (shiftedTo w r p)
+    ≡ take (rowStart r) (shiftedTo w r p) ++ shiftedRow w (row (shiftedTo w r p) r) ++ drop (1 + rowLength + rowLength * r) (shiftedTo w r p)
 unfolding shiftedTo
 step-to w r p =
     ap (λ f. take 1 p ++ f) (shift-step w r (drop 1 p))
-    ∙ seams (take 1 p) (take (20 * r) (shiftedFrom w r (drop 1 p))) _ (drop (20 * r + 20) (shiftedFrom w r (drop 1 p)))
+    ∙ seams (take 1 p) (take (rowLength * r) (shiftedFrom w r (drop 1 p))) _ (drop (rowLength * r + rowLength) (shiftedFrom w r (drop 1 p)))
     ∙ sym (λ i. before i ++ shiftedRow w (there i) ++ behind i)
   where
     seams : (a b c d : List ℕ) → a ++ (b ++ c ++ d) ≡ a ++ b ++ c ++ d
     seams a b c d = sym (append-assoc a (b ++ c) d) ∙ ap (λ f. f ++ d) (sym (append-assoc a b c))
 
-    before : take (1 + 20 * r) (shiftedTo w r p) ≡ take 1 p ++ take (20 * r) (shiftedFrom w r (drop 1 p))
-    before = take-add 1 (20 * r) (shiftedTo w r p) ∙ ap₂ (λ a f. a ++ take (20 * r) f) (front-to w r p) (rows-to w r p)
+    before : take (rowStart r) (shiftedTo w r p) ≡ take 1 p ++ take (rowLength * r) (shiftedFrom w r (drop 1 p))
+    before = take-add 1 (rowLength * r) (shiftedTo w r p) ∙ ap₂ (λ a f. a ++ take (rowLength * r) f) (front-to w r p) (rows-to w r p)
 
-    there : row (shiftedTo w r p) r ≡ take 20 (drop (20 * r) (shiftedFrom w r (drop 1 p)))
-    there = row-at (shiftedTo w r p) r ∙ ap (λ f. take 20 (drop (20 * r) f)) (rows-to w r p)
+    there : row (shiftedTo w r p) r ≡ take rowLength (drop (rowLength * r) (shiftedFrom w r (drop 1 p)))
+    there = row-at (shiftedTo w r p) r ∙ ap (λ f. take rowLength (drop (rowLength * r) f)) (rows-to w r p)
 
-    end : 21 + 20 * r ≡ 1 + (20 * r + 20)
+    end : 1 + rowLength + rowLength * r ≡ 1 + (rowLength * r + rowLength)
     end = omega arith
 
-    behind : drop (21 + 20 * r) (shiftedTo w r p) ≡ drop (20 * r + 20) (shiftedFrom w r (drop 1 p))
+    behind : drop (1 + rowLength + rowLength * r) (shiftedTo w r p) ≡ drop (rowLength * r + rowLength) (shiftedFrom w r (drop 1 p))
     behind =
         ap (λ k. drop k (shiftedTo w r p)) end
-        ∙ sym (drop-drop (20 * r + 20) 1 (shiftedTo w r p))
-        ∙ ap (λ f. drop (20 * r + 20) f) (rows-to w r p)
+        ∙ sym (drop-drop (rowLength * r + rowLength) 1 (shiftedTo w r p))
+        ∙ ap (λ f. drop (rowLength * r + rowLength) f) (rows-to w r p)
 
-pub step-put : (w r : ℕ) (p : List ℕ) {q new : List ℕ} → q ≡ shiftedTo w r p → new ≡ shiftedRow w (rowPart q r)
-    → partPut (1 + 20 * r) (1 + 20 * r + 20) q new ≡ shiftedTo w (r + 1) p
-step-put w r p {q} {new} e n =
-    part-put (1 + 20 * r) (1 + 20 * r + 20) q new (omega arith)
-    ∙ ap (λ x. take (1 + 20 * r) q ++ x ++ drop (1 + 20 * r + 20) q) (n ∙ ap (shiftedRow w) (sym (row-part q r)))
-    ∙ ap (λ l. take (1 + 20 * r) l ++ shiftedRow w (row l r) ++ drop (1 + 20 * r + 20) l) e
-    ∙ ap (λ k. take (1 + 20 * r) (shiftedTo w r p) ++ shiftedRow w (row (shiftedTo w r p) r) ++ drop k (shiftedTo w r p)) end
+pub step-put : (w r : ℕ) (p : List ℕ) {q new : List ℕ} {at : ℕ} → q ≡ shiftedTo w r p → at ≡ rowStart r
+    → new ≡ shiftedRow w (part at (at + rowLength) q) → partPut at (at + rowLength) q new ≡ shiftedTo w (r + 1) p
+step-put w r p {q} {new} e place n =
+    ap (λ k. partPut k (k + rowLength) q new) place
+    ∙ part-put (rowStart r) (rowStart r + rowLength) q new (omega arith)
+    ∙ ap (λ x. take (rowStart r) q ++ x ++ drop (rowStart r + rowLength) q) (n ∙ ap (shiftedRow w) (waiting w r p e place ∙ sym (row-to w r p)))
+    ∙ ap (λ l. take (rowStart r) l ++ shiftedRow w (row (shiftedTo w r p) r) ++ drop (rowStart r + rowLength) l) e
+    ∙ ap (λ k. take (rowStart r) (shiftedTo w r p) ++ shiftedRow w (row (shiftedTo w r p) r) ++ drop k (shiftedTo w r p)) end
     ∙ sym (step-to w r p)
   where
-    end : 1 + 20 * r + 20 ≡ 21 + 20 * r
+    end : rowStart r + rowLength ≡ 1 + rowLength + rowLength * r
     end = omega arith
 
 -- ---- a plan shifted once
@@ -360,34 +408,34 @@ plan-rows w p = ap (λ q. drop 1 q) (sym (all-shifted w p)) ∙ rows-to w (rowCo
 pub rows-plan : (w : ℕ) (p : List ℕ) → rows (shiftedPlan w p) ≡ map (shiftedRow w) (rows p)
 rows-plan w p = ap₂ (λ n f. rowsFrom n f) (count-shifted w p) (plan-rows w p) ∙ rows-shifted w (rowCount p) (drop 1 p)
 
-pub past-plan : (w : ℕ) (p : List ℕ) → drop (1 + 20 * rowCount p) (shiftedPlan w p) ≡ drop (1 + 20 * rowCount p) p
+pub past-plan : (w : ℕ) (p : List ℕ) → drop (rowStart (rowCount p)) (shiftedPlan w p) ≡ drop (rowStart (rowCount p)) p
 past-plan w p =
-    sym (drop-drop (20 * rowCount p) 1 (shiftedPlan w p))
-    ∙ ap (λ f. drop (20 * rowCount p) f) (plan-rows w p)
+    sym (drop-drop (rowLength * rowCount p) 1 (shiftedPlan w p))
+    ∙ ap (λ f. drop (rowLength * rowCount p) f) (plan-rows w p)
     ∙ past-rows w (rowCount p) (drop 1 p)
-    ∙ drop-drop (20 * rowCount p) 1 p
+    ∙ drop-drop (rowLength * rowCount p) 1 p
 
 pub sound-shifted : (w : ℕ) (p : List ℕ) → sound (shiftedPlan w p) ≡ sound p
 unfolding sound
 sound-shifted w p =
-    ap (λ n. between 1 128 n && (soundFrom [] (rows (shiftedPlan w p)) && allZero (slice (1 + 20 * n) 2561 (shiftedPlan w p)))) (count-shifted w p)
-    ∙ ap₂ (λ b f. between 1 128 (rowCount p) && (b && allZero f)) sound-same rest-same
+    ap (λ n. between 1 mostRows n && (soundFrom [] (rows (shiftedPlan w p)) && allZero (slice (rowStart n) planLength (shiftedPlan w p)))) (count-shifted w p)
+    ∙ ap₂ (λ b f. between 1 mostRows (rowCount p) && (b && allZero f)) sound-same rest-same
   where
     sound-same : soundFrom [] (rows (shiftedPlan w p)) ≡ soundFrom [] (rows p)
     sound-same = ap (λ l. soundFrom [] l) (rows-plan w p) ∙ sound-rows w [] (rows p)
 
-    rest-same : slice (1 + 20 * rowCount p) 2561 (shiftedPlan w p) ≡ slice (1 + 20 * rowCount p) 2561 p
+    rest-same : slice (rowStart (rowCount p)) planLength (shiftedPlan w p) ≡ slice (rowStart (rowCount p)) planLength p
     rest-same =
-        slice-part (1 + 20 * rowCount p) 2561 (shiftedPlan w p)
-        ∙ ap (λ f. take (2561 - (1 + 20 * rowCount p)) f) (past-plan w p)
-        ∙ sym (slice-part (1 + 20 * rowCount p) 2561 p)
+        slice-part (rowStart (rowCount p)) planLength (shiftedPlan w p)
+        ∙ ap (λ f. take (planLength - (rowStart (rowCount p))) f) (past-plan w p)
+        ∙ sym (slice-part (rowStart (rowCount p)) planLength p)
 
 pub cost-shifted : (w : ℕ) (p : List ℕ) → cost (shiftedPlan w p) ≡ cost p
 cost-shifted w p = ap costOf (rows-plan w p) ∙ cost-rows w (rows p)
 
 -- "1" and "9" go by length and soundness alone.
 pub refusal-like : (p q : List ℕ) → length p ≡ length q → sound p ≡ sound q → refusal p ≡ refusal q
-refusal-like p q e s = ap₂ (λ n b. cond (ltb n 2561) 1 (cond b 0 9)) e s
+refusal-like p q e s = ap₂ (λ n b. cond (ltb n planLength) 1 (cond b 0 9)) e s
 
 -- ---- a plan shifted n times
 pub length-after : (w n : ℕ) (p : List ℕ) → length (planAfter w n p) ≡ length p

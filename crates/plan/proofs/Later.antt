@@ -10,11 +10,12 @@ use lib.Dec.{eqb, ltb}
 use lib.ListN.{length, getD, take, drop, set, length-append, take-append-drop, List·getD-append}
 use lib.Seq.{take-length, take-take, take-append-seam, take-suc-set, length-take-le, getD-take, getD-at}
 use borrow.Author.Tests.{eqb-true, ltb-true}
+use Rattle.plan.specs.Measures.{rowLength}
 use Rattle.word.specs.Word as Word
 use Rattle.plan.specs.Row.{Row, kind, wordA, wordB, kindFacts, elements, elementsUsed, allZero, soundA, soundB, keepsTable}
 use Rattle.plan.specs.Plan.{rowCount, row, rowsFrom, firstRows, rows, sound}
 use Rattle.plan.specs.Points.{rowValue, valuesFrom, values, rootValue}
-use Rattle.plan.proofs.RowLaws.{rowPart, row-part, rows-add, rows-next, length-rows, values-append}
+use Rattle.plan.proofs.RowLaws.{rows-add, rows-next, length-rows, values-append}
 use Rattle.plan.proofs.SoundLaws.{sound-keeps}
 
 -- ---- one row: the values that it reads are those of earlier rows
@@ -81,12 +82,12 @@ values-before w f g =
 pub first-values : (w r : ℕ) (p : List ℕ) → r ≤ rowCount p → take r (values w p) ≡ valuesFrom w [] (firstRows r p)
 first-values w r p h =
     ap₂ (λ n l. take n (valuesFrom w [] l)) (sym (length-rows r (drop 1 p))) cut
-    ∙ values-before w (firstRows r p) (rowsFrom (rowCount p - r) (drop (20 * r) (drop 1 p)))
+    ∙ values-before w (firstRows r p) (rowsFrom (rowCount p - r) (drop (rowLength * r) (drop 1 p)))
   where
     count : rowCount p ≡ r + (rowCount p - r)
     count = omega arith
 
-    cut : rows p ≡ firstRows r p ++ rowsFrom (rowCount p - r) (drop (20 * r) (drop 1 p))
+    cut : rows p ≡ firstRows r p ++ rowsFrom (rowCount p - r) (drop (rowLength * r) (drop 1 p))
     cut = ap (λ n. rowsFrom n (drop 1 p)) count ∙ rows-add r (rowCount p - r) (drop 1 p)
 
 pub next-value : (w r : ℕ) (p : List ℕ)
@@ -114,7 +115,7 @@ same-value w r p q h k e = value-of w r p h ∙ ap (λ l. getD (valuesFrom w [] 
 -- ---- values stored one after the other in an array, as the code does it
 -- Row r's value, worked out from an array that begins with the values of the rows before it, goes behind them.
 pub values-store : (w r : ℕ) (p stored : List ℕ) {v : ℕ} → sound p ≡ true → r < rowCount p → r < length stored
-    → take r stored ≡ valuesFrom w [] (firstRows r p) → v ≡ rowValue w stored (rowPart p r)
+    → take r stored ≡ valuesFrom w [] (firstRows r p) → v ≡ rowValue w stored (row p r)
     → take (r + 1) (set stored r v) ≡ valuesFrom w [] (firstRows (r + 1) p)
 values-store w r p stored {v} s h room e q =
     ap (λ k. take k (set stored r v)) (add-one r)
@@ -125,7 +126,6 @@ values-store w r p stored {v} s h room e q =
     here : v ≡ rowValue w (valuesFrom w [] (firstRows r p)) (row p r)
     here =
         q
-        ∙ ap (λ x. rowValue w stored x) (sym (row-part p r))
         ∙ ap (λ l. rowValue w l (row p r)) (sym (take-append-drop r stored))
         ∙ later-rows w r (take r stored) (drop r stored) (row p r) (length-take-le r stored (omega arith)) (sound-keeps p r s h)
         ∙ ap (λ l. rowValue w l (row p r)) e

@@ -7,7 +7,8 @@ use native.Mathlib.Nat.{zero-add, add-zero, suc-add, sub-zero, zero-sub, suc-sub
 use native.Mathlib.Omega.{arith}
 use lib.ListN.{length, getD, take, drop, length-drop}
 use lib.Seq.{slice, take-all, drop-drop, length-slice, take-nil, getD-drop, getD-take}
-use Rattle.plan.specs.Row.{Row, rowCost, soundRow}
+use Rattle.plan.specs.Measures.{elementsStart, elementCount, planLength, rowLength, mostRows, rowStart}
+use Rattle.plan.specs.Row.{Row, elements, rowCost, soundRow}
 use Rattle.plan.specs.Plan.{row, rowsFrom, firstRows, soundFrom, costOf}
 use Rattle.plan.specs.Points.{rowValue, valuesFrom}
 
@@ -36,35 +37,47 @@ part-put i n l new h =
 
 -- ---- where row r stands
 abbrev pub rowPart : List ℕ → ℕ → List ℕ
-rowPart p r = part (1 + 20 * r) (1 + 20 * r + 20) p
+rowPart p r = part (rowStart r) (rowStart r + rowLength) p
 
 pub row-part : (p : List ℕ) (r : ℕ) → row p r ≡ rowPart p r
-row-part p r = slice-part (1 + 20 * r) (1 + 20 * r + 20) p
+row-part p r = slice-part (rowStart r) (rowStart r + rowLength) p
 
-pub row-at : (p : List ℕ) (r : ℕ) → row p r ≡ take 20 (drop (20 * r) (drop 1 p))
+pub row-at : (p : List ℕ) (r : ℕ) → row p r ≡ take rowLength (drop (rowLength * r) (drop 1 p))
 row-at p r =
-    row-part p r ∙ ap₂ (λ n f. take n f) twenty (sym (drop-drop (20 * r) 1 p))
+    row-part p r ∙ ap₂ (λ n f. take n f) full (sym (drop-drop (rowLength * r) 1 p))
   where
-    twenty : 1 + 20 * r + 20 - (1 + 20 * r) ≡ 20
-    twenty = omega arith
+    full : rowStart r + rowLength - (rowStart r) ≡ rowLength
+    full = omega arith
 
-pub length-row : (p : List ℕ) (r : ℕ) → r < 128 → 2561 ≤ length p → length (row p r) ≡ 20
-length-row p r h long = length-slice (1 + 20 * r) (1 + 20 * r + 20) p (omega arith) ∙ omega arith
+pub length-row : (p : List ℕ) (r : ℕ) → r < mostRows → planLength ≤ length p → length (row p r) ≡ rowLength
+length-row p r h long = length-slice (rowStart r) (rowStart r + rowLength) p (omega arith) ∙ omega arith
+
+-- The elements of a row from the n-th on, as the code lends them.
+pub drop-take : (m n : ℕ) (l : List ℕ) → drop m (take (m + n) l) ≡ take n (drop m l)
+drop-take zero n l = ap (λ k. take k l) (zero-add n)
+drop-take (suc m) n [] = ap (λ k. drop (suc m) (take k [])) (suc-add m n) ∙ sym (take-nil n)
+drop-take (suc m) n (a ∷ l) = ap (λ k. drop (suc m) (take k (a ∷ l))) (suc-add m n) ∙ drop-take m n l
+
+pub elements-past : (row : Row) (n : ℕ) → part (elementsStart + n) (elementsStart + elementCount) row ≡ drop n (elements row)
+elements-past row n =
+    sym (slice-part (elementsStart + n) (elementsStart + elementCount) row)
+    ∙ sym (drop-drop n elementsStart (take (elementsStart + elementCount) row))
+    ∙ ap (λ f. drop n f) (drop-take elementsStart elementCount row)
 
 -- Word j of row r in the plan.
-pub word-at : (p : List ℕ) (r j : ℕ) → j < 20 → getD (row p r) j 0 ≡ getD p (1 + 20 * r + j) 0
+pub word-at : (p : List ℕ) (r j : ℕ) → j < rowLength → getD (row p r) j 0 ≡ getD p (rowStart r + j) 0
 word-at p r j h =
-    getD-drop (1 + 20 * r) (take (1 + 20 * r + 20) p) j 0 ∙ getD-take (1 + 20 * r + 20) p (1 + 20 * r + j) 0 (omega arith)
+    getD-drop (rowStart r) (take (rowStart r + rowLength) p) j 0 ∙ getD-take (rowStart r + rowLength) p (rowStart r + j) 0 (omega arith)
 
-pub rows-add : (n m : ℕ) (f : List ℕ) → rowsFrom (n + m) f ≡ rowsFrom n f ++ rowsFrom m (drop (20 * n) f)
+pub rows-add : (n m : ℕ) (f : List ℕ) → rowsFrom (n + m) f ≡ rowsFrom n f ++ rowsFrom m (drop (rowLength * n) f)
 unfolding rowsFrom
 rows-add zero m f = rw (zero-add m)
 rows-add (suc n) m f =
     rw (suc-add n m)
-    (ap {B = List Row} (λ rows. take 20 f ∷ rows)
-    (rows-add n m (drop 20 f) ∙ ap (λ g. rowsFrom n (drop 20 f) ++ rowsFrom m g) (drop-drop (20 * n) 20 f ∙ ap (λ k. drop k f) turns)))
+    (ap {B = List Row} (λ rows. take rowLength f ∷ rows)
+    (rows-add n m (drop rowLength f) ∙ ap (λ g. rowsFrom n (drop rowLength f) ++ rowsFrom m g) (drop-drop (rowLength * n) rowLength f ∙ ap (λ k. drop k f) turns)))
   where
-    turns : 20 + 20 * n ≡ 20 * suc n
+    turns : rowLength + rowLength * n ≡ rowLength * suc n
     turns = omega arith
 
 -- Row r follows the first r rows.
@@ -75,7 +88,7 @@ rows-next r p = rows-add r 1 (drop 1 p) ∙ ap (λ x. firstRows r p ++ x ∷ [])
 pub length-rows : (n : ℕ) (f : List ℕ) → length (rowsFrom n f) ≡ n
 unfolding rowsFrom
 length-rows zero f = refl
-length-rows (suc n) f = ap suc (length-rows n (drop 20 f))
+length-rows (suc n) f = ap suc (length-rows n (drop rowLength f))
 
 -- ---- rows put together
 pub sound-append : (earlier f g : List Row) → soundFrom earlier (f ++ g) ≡ (soundFrom earlier f && soundFrom (earlier ++ f) g)
@@ -96,9 +109,9 @@ unfolding valuesFrom
 values-append w earlier [] g = refl
 values-append w earlier (row ∷ f) g = values-append w (earlier ++ rowValue w earlier row ∷ []) f g
 
-pub cost-next : (r : ℕ) (p : List ℕ) → costOf (firstRows r p) + rowCost (rowPart p r) ≡ costOf (firstRows (r + 1) p)
+pub cost-next : (r : ℕ) (p : List ℕ) → costOf (firstRows r p) + rowCost (row p r) ≡ costOf (firstRows (r + 1) p)
 unfolding costOf
 cost-next r p =
-    ap (λ n. costOf (firstRows r p) + n) (ap (λ x. rowCost x) (sym (row-part p r)) ∙ sym (add-zero (rowCost (row p r))))
+    ap (λ n. costOf (firstRows r p) + n) (sym (add-zero (rowCost (row p r))))
     ∙ sym (cost-append (firstRows r p) (row p r ∷ []))
     ∙ ap costOf (sym (rows-next r p))

@@ -9,6 +9,7 @@ use lib.Dec.{leb, ltb, eqb}
 use lib.ListN.{length, getD, drop}
 use lib.Seq.{drop-drop, getD-at}
 use borrow.Author.Tests.{ltb-true, leb-true, eqb-true, eqb-false, eq-eqb, ne-eqb}
+use Rattle.plan.specs.Measures.{elementCount, planLength, rowLength, mostRows, rowStart}
 use Rattle.plan.specs.declared.Kind.{Kind}
 use Rattle.plan.specs.Row.{Row, kind, wordA, wordB, costing, kindTable, kindFacts, fixedCost, operandCount, isChain, rowCost, between, soundA, soundB, elementsUsed, allZero, keepsTable, oddConstant, soundBase, soundRow}
 use Rattle.plan.specs.Plan.{rowCount, row, rowsFrom, firstRows, rows, soundFrom, sound}
@@ -40,14 +41,14 @@ all-zero-next (a ∷ f) zero h = refl
 all-zero-next (a ∷ f) (suc i) h = all-zero-next f i (le-of-suc-le-suc h)
 
 -- ---- the words of a row that keeps the table
-pub a-small : (r k a : ℕ) → r ≤ 128 → soundA r k a ≡ true → a < 128
+pub a-small : (r k a : ℕ) → r ≤ mostRows → soundA r k a ≡ true → a < mostRows
 a-small r k a few e =
     one-of (isChain k) (between 1 16 a) (cond (ltb 0 (operandCount k)) (ltb a r) (eqb a 0)) e
     (λ chain e. omega (arith, within 1 16 a e))
     (λ other e.
     one-of (ltb 0 (operandCount k)) (ltb a r) (eqb a 0) e (λ operator e. omega (arith, ltb-true a r e)) (λ none e. omega (arith, eqb-true a 0 e)))
 
-b-small : (r k b : ℕ) → r ≤ 128 → soundB r k b ≡ true → b < 128
+b-small : (r k b : ℕ) → r ≤ mostRows → soundB r k b ≡ true → b < mostRows
 b-small r k b few e =
     one-of (eqb k 7) (between 2 64 b) (cond (eqb (operandCount k) 2) (ltb b r) (eqb b 0)) e
     (λ power e. omega (arith, within 2 64 b e))
@@ -91,11 +92,11 @@ module _ (r : ℕ) (row : Row) (kept : keepsTable r row ≡ true) where
   unfolding kindFacts
   kept-base e = ltb-true (wordA row) r (subst (λ k. soundA r k (wordA row) ≡ true) e kept-a)
 
-  module _ (few : r ≤ 128) where
-    pub kept-a-small : wordA row < 128
+  module _ (few : r ≤ mostRows) where
+    pub kept-a-small : wordA row < mostRows
     kept-a-small = a-small r (kind row) (wordA row) few kept-a
 
-    pub kept-b-small : wordB row < 128
+    pub kept-b-small : wordB row < mostRows
     kept-b-small = b-small r (kind row) (wordB row) few kept-b
 
 -- ---- no row costs more than 128
@@ -122,33 +123,33 @@ row-cost-most r row few kept = most (isChain (kind row)) (eqb (kind row) 7)
     most false false = fixed-cost-most (kind row)
 
 -- ---- the rows of a sound plan
-pub sound-count : (p : List ℕ) → sound p ≡ true → (1 ≤ rowCount p) × (rowCount p ≤ 128)
+pub sound-count : (p : List ℕ) → sound p ≡ true → (1 ≤ rowCount p) × (rowCount p ≤ mostRows)
 unfolding sound
-sound-count p e = within 1 128 (rowCount p) (and-left (between 1 128 (rowCount p)) _ e)
+sound-count p e = within 1 mostRows (rowCount p) (and-left (between 1 mostRows (rowCount p)) _ e)
 
 pub sound-rows : (p : List ℕ) → sound p ≡ true → soundFrom [] (rows p) ≡ true
 unfolding sound
-sound-rows p e = and-left (soundFrom [] (rows p)) _ (and-right (between 1 128 (rowCount p)) _ e)
+sound-rows p e = and-left (soundFrom [] (rows p)) _ (and-right (between 1 mostRows (rowCount p)) _ e)
 
 -- Row r of the first n rows, and whether they are all sound.
 pub rows-split : (n r : ℕ) (p : List ℕ) → r < n
-    → firstRows n p ≡ firstRows r p ++ row p r ∷ rowsFrom (n - suc r) (drop (20 * suc r) (drop 1 p))
+    → firstRows n p ≡ firstRows r p ++ row p r ∷ rowsFrom (n - suc r) (drop (rowLength * suc r) (drop 1 p))
 unfolding rowsFrom
 rows-split n r p h =
     ap (λ k. firstRows k p) parts
     ∙ rows-add r (suc (n - suc r)) (drop 1 p)
-    ∙ ap₂ (λ x f. firstRows r p ++ x ∷ rowsFrom (n - suc r) f) (sym (row-at p r)) (drop-drop 20 (20 * r) (drop 1 p) ∙ ap (λ k. drop k (drop 1 p)) next)
+    ∙ ap₂ (λ x f. firstRows r p ++ x ∷ rowsFrom (n - suc r) f) (sym (row-at p r)) (drop-drop rowLength (rowLength * r) (drop 1 p) ∙ ap (λ k. drop k (drop 1 p)) next)
   where
     parts : n ≡ r + suc (n - suc r)
     parts = omega arith
 
-    next : 20 * r + 20 ≡ 20 * suc r
+    next : rowLength * r + rowLength ≡ rowLength * suc r
     next = omega arith
 
 pub sound-split : (n r : ℕ) (p : List ℕ) → r < n
     → soundFrom [] (firstRows n p)
     ≡ (soundFrom [] (firstRows r p) && (soundRow (firstRows r p) (row p r)
-    && soundFrom (firstRows r p ++ row p r ∷ []) (rowsFrom (n - suc r) (drop (20 * suc r) (drop 1 p)))))
+    && soundFrom (firstRows r p ++ row p r ∷ []) (rowsFrom (n - suc r) (drop (rowLength * suc r) (drop 1 p)))))
 unfolding soundFrom
 sound-split n r p h = ap (λ f. soundFrom [] f) (rows-split n r p h) ∙ sound-append [] (firstRows r p) _
 
@@ -161,14 +162,14 @@ sound-keeps p r e h =
     subst (λ n. keepsTable n (row p r) ≡ true) (length-rows r (drop 1 p)) (and-left (keepsTable (length (firstRows r p)) (row p r)) _ (sound-row p r e h))
 
 -- ---- one row after the other, as the code judges them
-pub kind-at : (p : List ℕ) (r : ℕ) → kind (row p r) ≡ getD p (1 + 20 * r) 0
-kind-at p r = word-at p r 0 (omega arith) ∙ ap (λ n. getD p n 0) (add-zero (1 + 20 * r))
+pub kind-at : (p : List ℕ) (r : ℕ) → kind (row p r) ≡ getD p (rowStart r) 0
+kind-at p r = word-at p r 0 (omega arith) ∙ ap (λ n. getD p n 0) (add-zero (rowStart r))
 
 -- Row i of the first r rows.
 pub earlier-row : (p : List ℕ) (r i : ℕ) → i < r → getD (firstRows r p) i [] ≡ row p i
 earlier-row p r i h =
     ap (λ f. getD f i []) (rows-split r i p h)
-    ∙ getD-at (firstRows i p) (row p i) (rowsFrom (r - suc i) (drop (20 * suc i) (drop 1 p))) [] i (length-rows i (drop 1 p))
+    ∙ getD-at (firstRows i p) (row p i) (rowsFrom (r - suc i) (drop (rowLength * suc i) (drop 1 p))) [] i (length-rows i (drop 1 p))
 
 module _ (p : List ℕ) (r : ℕ) where
   row-sound : soundRow (firstRows r p) (row p r) ≡ (keepsTable r (row p r) && soundBase (firstRows r p) (row p r))
@@ -177,24 +178,29 @@ module _ (p : List ℕ) (r : ℕ) where
   pub table-broken : keepsTable r (row p r) ≡ false → soundRow (firstRows r p) (row p r) ≡ false
   table-broken e = row-sound ∙ ap (λ b. b && soundBase (firstRows r p) (row p r)) e
 
-  module _ (kept : keepsTable r (row p r) ≡ true) where
-    judged : soundRow (firstRows r p) (row p r) ≡ soundBase (firstRows r p) (row p r)
-    judged = row-sound ∙ ap (λ b. b && soundBase (firstRows r p) (row p r)) kept
+  -- The row as a part x of the plan.
+  module _ {x : Row} (same : x ≡ row p r) (kept : keepsTable r x ≡ true) where
+    kept-there : keepsTable r (row p r) ≡ true
+    kept-there = ap (λ y. keepsTable r y) (sym same) ∙ kept
 
-    pub no-raise : (getD p (1 + 20 * r) 0 ≡ 8 → ⊥) → soundRow (firstRows r p) (row p r) ≡ true
-    no-raise other =
-        judged
-        ∙ ap (λ b. cond b (oddConstant (getD (firstRows r p) (wordA (row p r)) [])) true) (ne-eqb (kind (row p r)) 8 (λ e. other (sym (kind-at p r) ∙ e)))
+    judged : soundRow (firstRows r p) (row p r) ≡ soundBase (firstRows r p) x
+    judged =
+        row-sound
+        ∙ ap (λ b. b && soundBase (firstRows r p) (row p r)) kept-there
+        ∙ ap (λ y. soundBase (firstRows r p) y) (sym same)
 
-    module _ (raise : getD p (1 + 20 * r) 0 ≡ 8) where
-      pub base-earlier : getD p (1 + 20 * r + 1) 0 < r
-      base-earlier = subst (λ a. a < r) (word-at p r 1 (omega arith)) (kept-base r (row p r) kept (kind-at p r ∙ raise))
+    pub no-raise : (kind x ≡ 8 → ⊥) → soundRow (firstRows r p) (row p r) ≡ true
+    no-raise other = judged ∙ ap (λ b. cond b (oddConstant (getD (firstRows r p) (wordA x) [])) true) (ne-eqb (kind x) 8 other)
 
-      pub raise-sound : soundRow (firstRows r p) (row p r) ≡ oddConstant (rowPart p (getD p (1 + 20 * r + 1) 0))
+    module _ (raise : kind x ≡ 8) where
+      pub base-earlier : wordA x < r
+      base-earlier = kept-base r x kept raise
+
+      pub raise-sound : soundRow (firstRows r p) (row p r) ≡ oddConstant (row p (wordA x))
       raise-sound =
           judged
-          ∙ ap₂ (λ b a. cond b (oddConstant (getD (firstRows r p) a [])) true) (eq-eqb (kind (row p r)) 8 (kind-at p r ∙ raise)) (word-at p r 1 (omega arith))
-          ∙ ap (λ x. oddConstant x) (earlier-row p r (getD p (1 + 20 * r + 1) 0) base-earlier ∙ row-part p (getD p (1 + 20 * r + 1) 0))
+          ∙ ap (λ b. cond b (oddConstant (getD (firstRows r p) (wordA x) [])) true) (eq-eqb (kind x) 8 raise)
+          ∙ ap (λ y. oddConstant y) (earlier-row p r (wordA x) base-earlier)
 
   pub sound-next : soundFrom [] (firstRows r p) ≡ true → soundRow (firstRows r p) (row p r) ≡ true → soundFrom [] (firstRows (r + 1) p) ≡ true
   unfolding soundFrom
@@ -206,34 +212,32 @@ module _ (p : List ℕ) (r : ℕ) where
   pub sound-not : (n : ℕ) → r < n → soundRow (firstRows r p) (row p r) ≡ false → soundFrom [] (firstRows n p) ≡ false
   sound-not n h here =
       sound-split n r p h
-      ∙ ap (λ b. soundFrom [] (firstRows r p) && (b && soundFrom (firstRows r p ++ row p r ∷ []) (rowsFrom (n - suc r) (drop (20 * suc r) (drop 1 p))))) here
+      ∙ ap (λ b. soundFrom [] (firstRows r p) && (b && soundFrom (firstRows r p ++ row p r ∷ []) (rowsFrom (n - suc r) (drop (rowLength * suc r) (drop 1 p))))) here
       ∙ and-false (soundFrom [] (firstRows r p))
 
--- ---- row r of a sound plan, as the code lends it
-module _ (p : List ℕ) (r : ℕ) (long : 2561 ≤ length p) (e : sound p ≡ true) (h : r < rowCount p) where
-  few : r < 128
-  few = omega (arith, sound-count p e)
+-- ---- row r of a sound plan, as a part of it
+pub record RowFacts (x : Row) : Type 0 where
+  pub words : length x ≡ rowLength
+  pub known : kind x < 9
+  pub exponent : kind x ≡ 7 → 1 ≤ wordB x
+  pub chain : isChain (kind x) ≡ true → wordA x < elementCount
+  pub a-few : wordA x < mostRows
+  pub b-few : wordB x < mostRows
+  pub cost : rowCost x ≤ 128
 
-  keeps : keepsTable r (row p r) ≡ true
-  keeps = sound-keeps p r e h
+pub row-facts : (p : List ℕ) (r : ℕ) → planLength ≤ length p → sound p ≡ true → r < rowCount p → {x : Row} → x ≡ row p r → RowFacts x
+row-facts p r long e h same = subst RowFacts (sym same) record {
+  words = length-row p r few long;
+  known = kept-kind r (row p r) keeps;
+  exponent = λ k. omega (arith, kept-exponent r (row p r) keeps k);
+  chain = λ k. omega (arith, kept-length r (row p r) keeps k);
+  a-few = kept-a-small r (row p r) keeps (omega (arith, few));
+  b-few = kept-b-small r (row p r) keeps (omega (arith, few));
+  cost = row-cost-most r (row p r) (omega (arith, few)) keeps;
+}
+  where
+    few : r < mostRows
+    few = omega (arith, sound-count p e)
 
-  pub part-length : length (rowPart p r) ≡ 20
-  part-length = subst (λ x. length x ≡ 20) (row-part p r) (length-row p r few long)
-
-  pub part-kind : kind (rowPart p r) < 9
-  part-kind = subst (λ x. kind x < 9) (row-part p r) (kept-kind r (row p r) keeps)
-
-  pub part-exponent : kind (rowPart p r) ≡ 7 → 1 ≤ wordB (rowPart p r)
-  part-exponent = subst (λ x. kind x ≡ 7 → 1 ≤ wordB x) (row-part p r) (λ k. omega (arith, kept-exponent r (row p r) keeps k))
-
-  pub part-chain : isChain (kind (rowPart p r)) ≡ true → wordA (rowPart p r) ≤ 16
-  part-chain = subst (λ x. isChain (kind x) ≡ true → wordA x ≤ 16) (row-part p r) (kept-length r (row p r) keeps)
-
-  pub part-a : wordA (rowPart p r) < 128
-  part-a = subst (λ x. wordA x < 128) (row-part p r) (kept-a-small r (row p r) keeps (omega (arith, few)))
-
-  pub part-b : wordB (rowPart p r) < 128
-  part-b = subst (λ x. wordB x < 128) (row-part p r) (kept-b-small r (row p r) keeps (omega (arith, few)))
-
-  pub part-cost : rowCost (rowPart p r) ≤ 128
-  part-cost = subst (λ x. rowCost x ≤ 128) (row-part p r) (row-cost-most r (row p r) (omega (arith, few)) keeps)
+    keeps : keepsTable r (row p r) ≡ true
+    keeps = sound-keeps p r e h

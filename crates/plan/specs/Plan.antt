@@ -6,6 +6,7 @@ use Prim.Native.Nat.{ℕ, zero, suc, _+_, _*_}
 use lib.Dec.{ltb}
 use lib.ListN.{length, getD, take, drop}
 use lib.Seq.{slice}
+use Rattle.plan.specs.Measures.{planLength, rowLength, mostRows, rowStart}
 use Rattle.plan.specs.Row.{Row, rowCost, between, allZero, soundRow}
 
 -- "2,561 words, lent. Word 0: the number of rows, 1 to 128."
@@ -14,12 +15,12 @@ rowCount p = getD p 0 0
 
 -- "Row r has the 20 words from 1 + 20r."
 abbrev pub row : List ℕ → ℕ → Row
-row p r = slice (1 + 20 * r) (1 + 20 * r + 20) p
+row p r = slice (rowStart r) (rowStart r + rowLength) p
 
 -- The words of the rows cut into rows, and so the first n rows of a plan, and those that word 0 counts.
 unfoldable pub rowsFrom : ℕ → List ℕ → List Row
 rowsFrom zero f = []
-rowsFrom (suc n) f = take 20 f ∷ rowsFrom n (drop 20 f)
+rowsFrom (suc n) f = take rowLength f ∷ rowsFrom n (drop rowLength f)
 
 abbrev pub firstRows : ℕ → List ℕ → List Row
 firstRows n p = rowsFrom n (drop 1 p)
@@ -35,7 +36,7 @@ soundFrom earlier (row ∷ more) = soundRow earlier row && soundFrom (earlier ++
 -- "A plan is sound if word 0 is 1 to 128, it keeps this table, every operand row is earlier, every word named unused is 0, and rows from
 -- word 0's number to 127 are all 0."
 unfoldable pub sound : List ℕ → Bool
-sound p = between 1 128 (rowCount p) && (soundFrom [] (rows p) && allZero (slice (1 + 20 * rowCount p) 2561 p))
+sound p = between 1 mostRows (rowCount p) && (soundFrom [] (rows p) && allZero (slice (rowStart (rowCount p)) planLength p))
 
 -- "The plan's cost is the sum over its rows."
 unfoldable pub costOf : List Row → ℕ
@@ -47,4 +48,4 @@ cost p = costOf (rows p)
 
 -- "1: plan shorter than 2,561 words"; "9: plan not sound (after 1)"; otherwise 0.
 abbrev pub refusal : List ℕ → ℕ
-refusal p = cond (ltb (length p) 2561) 1 (cond (sound p) 0 9)
+refusal p = cond (ltb (length p) planLength) 1 (cond (sound p) 0 9)

@@ -4,11 +4,12 @@ use mathlib.Core.List.{List, [], _∷_, _++_}
 use Prim.Native.Nat.{ℕ, zero, suc, _+_, _-_}
 use lib.Dec.{eqb}
 use lib.ListN.{getD, take, drop}
+use Rattle.plan.specs.Measures.{elementsStart, elementCount, rowLength}
 use Rattle.word.specs.Word as Word
 use Rattle.chain.specs.Chain.{words}
 use Rattle.chain.specs.SumChain.{sumShift}
 use Rattle.chain.specs.ProductChain.{productShift}
-use Rattle.plan.specs.Row.{Row, kind, wordA, wordB, elements}
+use Rattle.plan.specs.Row.{Row, kind, wordA, wordB, elements, firstElement}
 use Rattle.plan.specs.Plan.{rowCount, rows}
 
 -- "3, 4, 5: + - *", "6: minus", "7: literal power", "8: raise", of the values left and right of the rows a and b.
@@ -21,7 +22,7 @@ operatorValue w row left right =
     (cond (eqb (kind row) 6) (Word.negation w left)
     (cond (eqb (kind row) 7) (Word.power w left (wordB row))
     (cond (eqb (kind row) 8) (Word.power w left right)
-    (getD row 3 0))))))
+    (firstElement row))))))
 
 -- The value of a row, given those of the rows before it.
 abbrev pub rowValue : ℕ → List ℕ → Row → ℕ
@@ -39,9 +40,9 @@ values w p = valuesFrom w [] (rows p)
 unfoldable pub rootValue : ℕ → List ℕ → ℕ
 rootValue w p = getD (values w p) (rowCount p - 1) 0
 
--- The elements 0 to a of a chain's row replaced by others; kind, a, b and the words after them stay.
+-- The elements 0 to a of a chain's row replaced by others; the other elements, and the words before and after the elements, stay.
 abbrev pub withChain : Row → List ℕ → Row
-withChain row f = take 3 row ++ f ++ drop (4 + wordA row) row
+withChain row f = take elementsStart row ++ ((f ++ drop (1 + wordA row) (elements row)) ++ drop (elementsStart + elementCount) row)
 
 abbrev pub chainOf : Row → List ℕ
 chainOf row = take (1 + wordA row) (elements row)
@@ -55,7 +56,7 @@ shiftedRow w row =
 -- The first n rows shifted; the words after them stay.
 unfoldable pub shiftedFrom : ℕ → ℕ → List ℕ → List ℕ
 shiftedFrom w zero f = f
-shiftedFrom w (suc n) f = shiftedRow w (take 20 f) ++ shiftedFrom w n (drop 20 f)
+shiftedFrom w (suc n) f = shiftedRow w (take rowLength f) ++ shiftedFrom w n (drop rowLength f)
 
 -- "then shifts every chain once".
 unfoldable pub shiftedPlan : ℕ → List ℕ → List ℕ

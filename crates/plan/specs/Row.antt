@@ -4,7 +4,8 @@ use mathlib.Core.Bool.{Bool, true, cond, _&&_, _||_}
 use mathlib.Core.List.{List, [], _∷_}
 use Prim.Native.Nat.{ℕ, _+_, _-_, _%_}
 use lib.Dec.{leb, ltb, eqb}
-use lib.ListN.{length, getD, drop}
+use lib.ListN.{length, getD, take, drop}
+use Rattle.plan.specs.Measures.{elementsStart, elementCount}
 use Rattle.plan.specs.declared.Kind.{Kind}
 
 -- "Row r has the 20 words from 1 + 20r: kind, a, b, then 17 element words."
@@ -20,8 +21,12 @@ wordA row = getD row 1 0
 abbrev pub wordB : Row → ℕ
 wordB row = getD row 2 0
 
+-- "then 17 element words": those, and no words after them.
 abbrev pub elements : Row → List ℕ
-elements row = drop 3 row
+elements row = take elementCount (drop elementsStart row)
+
+abbrev pub firstElement : Row → ℕ
+firstElement row = getD row elementsStart 0
 
 -- "a small constant table from row kind to fixed cost and operand count", for the kinds 0 to 8.
 -- The cost of a chain is its length and that of a literal power n - 1; nothing of them is fixed.
@@ -78,7 +83,7 @@ keepsTable r row =
 
 -- "8: raise: constant row, odd".
 abbrev pub oddConstant : Row → Bool
-oddConstant row = eqb (kind row) 0 && eqb (getD row 3 0 % 2) 1
+oddConstant row = eqb (kind row) 0 && eqb (firstElement row % 2) 1
 
 abbrev pub soundBase : List Row → Row → Bool
 soundBase earlier row = cond (eqb (kind row) 8) (oddConstant (getD earlier (wordA row) [])) true

@@ -1,5 +1,16 @@
 // What the calls on plans answer, and a line of the table of row kinds. What a plan is and means is in specs/, its laws in proofs/.
-// The calls are in `soundness` and `filling`, the work of a point in `points`; formulas live above.
+// The calls are in `plan_sound` and `plan_fill`, the work of a point in `plan_fill::points`; formulas live above.
+
+// The layout: words of a row, the place of its elements and their number, the rows, and the words of a plan.
+pub const ROW_WORDS: usize = 20;
+
+pub const ELEMENTS_START: usize = 3;
+
+pub const ELEMENT_COUNT: usize = 17;
+
+pub const MOST_ROWS: usize = 128;
+
+pub const PLAN_WORDS: usize = 1 + MOST_ROWS * ROW_WORDS;
 
 // What a row of a kind always costs, and how many operand rows it has.
 pub struct Kind {

@@ -1,9 +1,10 @@
 // The table printer: reads a job file from standard input and writes what it prints to standard output.
-// What a run prints is decided in `steps`; here bytes are read and written, and buffers are lent.
-use job::Progress;
-use job::Stepped;
+// What a run prints is decided in `table_steps`; here bytes are read and written, and buffers are lent.
 use libc::STDIN_FILENO;
 use libc::STDOUT_FILENO;
+use plan::PLAN_WORDS;
+use table_progress::Progress;
+use table_progress::Stepped;
 ghost use mathlib.Core.Path.{_≡_};
 ghost use mathlib.Core.Bool.{true};
 ghost use Prim.Native.Nat.{_+_, _≤_};
@@ -74,7 +75,7 @@ fn step(
     ensures { λ r. ⌜ r .used ≤ length (now (input .entry)) ⌝ }
     ensures { λ r. ⌜ (r .ok ≡ true → 1 ≤ length (now (input .entry)) → 1 ≤ r .used) ⌝ }
 {
-    steps::step(
+    table_steps::step(
         progress,
         input,
         line,
@@ -85,20 +86,18 @@ fn step(
     )
 }
 
-// What the end of the input prints, written behind the filled part of the output buffer.
+// What the end of the input prints.
 fn finish(
     progress: Progress,
-    filled: usize,
     line: &[u8],
     defaults: &mut [u8],
     plan: &mut [u64],
     table: &mut [u64],
     out: &mut [u8],
 ) -> Stepped
-    requires { ⌜ filled ≤ length (now out) ⌝ }
-    ensures { λ r. ⌜ filled + r .wrote ≤ length (now (out .exit)) ⌝ }
+    ensures { λ r. ⌜ r .wrote ≤ length (now (out .exit)) ⌝ }
 {
-    steps::finish(progress, line, defaults, plan, table, &mut out[filled..])
+    table_steps::finish(progress, line, defaults, plan, table, out)
 }
 
 // A step with room made for it.
@@ -138,55 +137,57 @@ fn turn(
     }
 }
 
-// All steps over some input.
+// All steps over some input, and what they print written.
 fn take(
-    going: Going,
+    progress: Progress,
     input: &[u8],
     line: &mut [u8],
     defaults: &mut [u8],
     plan: &mut [u64],
     table: &mut [u64],
     out: &mut [u8],
-) -> Going
-    requires { ⌜ going .filled ≤ length (now out) ⌝ }
-    ensures { λ r. ⌜ r .filled ≤ length (now (out .exit)) ⌝ }
-{
-    let mut reached = going;
+) -> Going {
+    let mut going = Going {
+        ok: true,
+        progress,
+        used: 0,
+        filled: 0,
+    };
     let mut at = 0;
     while at < input.len() {
-        let next = turn(reached, &input[at..], line, defaults, plan, table, out);
+        let next = turn(going, &input[at..], line, defaults, plan, table, out);
         if !next.ok {
             return next;
         }
-        reached = next;
+        going = next;
         at += next.used;
     }
-    reached
+    let reached = going.progress;
+    let filled = going.filled;
+    Going {
+        ok: write(&out[0..filled]),
+        progress: reached,
+        used: at,
+        filled: 0,
+    }
 }
 
-// The end of the input: what it prints, and all that is not written yet.
+// The end of the input, and what it prints written.
 fn end(
-    going: Going,
+    progress: Progress,
     line: &[u8],
     defaults: &mut [u8],
     plan: &mut [u64],
     table: &mut [u64],
     out: &mut [u8],
-)
-    requires { ⌜ going .filled ≤ length (now out) ⌝ }
-{
-    let room = make_room(out, going.filled);
-    if !room.ok {
-        return;
-    }
-    let begin = room.filled;
-    let last = finish(going.progress, begin, line, defaults, plan, table, out);
-    let filled = begin + last.wrote;
-    write(&out[0..filled]);
+) {
+    let last = finish(progress, line, defaults, plan, table, out);
+    let wrote = last.wrote;
+    write(&out[0..wrote]);
 }
 
-// Reads to the end of the input or until a write fails. A proved loop has to end, and nothing says that an input does: the loop counts its turns down,
-// from a number that no run uses up.
+// Reads to the end of the input or until a write fails. Before it reads, and perhaps waits, all that the input so far prints is written. A proved loop has
+// to end, and nothing says that an input does: the loop counts its turns down, from a number that no run uses up.
 fn run(
     input: &mut [u8],
     line: &mut [u8],
@@ -195,31 +196,27 @@ fn run(
     table: &mut [u64],
     out: &mut [u8],
 ) {
-    let mut going = Going {
-        ok: true,
-        progress: steps::start(),
-        used: 0,
-        filled: 0,
-    };
+    let mut progress = table_steps::start();
     let mut got = read(input);
     let mut turns = u64::MAX;
     while got > 0 && turns > 0 {
-        let next = take(going, &input[0..got], line, defaults, plan, table, out);
+        let next = take(progress, &input[0..got], line, defaults, plan, table, out);
         if !next.ok {
             return;
         }
-        going = next;
+        let reached = next.progress;
+        progress = reached;
         got = read(input);
         turns -= 1;
     }
-    end(going, line, defaults, plan, table, out);
+    end(progress, line, defaults, plan, table, out);
 }
 
 fn main() {
     let mut input = io::large_buffer();
     let mut line = [0u8; 4097];
     let mut defaults = [0u8; 4096];
-    let mut plan = [0u64; 2561];
+    let mut plan = [0u64; PLAN_WORDS];
     let mut table = [0u64; 4096];
     let mut out = [0u8; 262144];
     run(

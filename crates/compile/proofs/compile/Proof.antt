@@ -1,7 +1,7 @@
 -- `compile` refuses, or folds the tree that it reads into the end of the plan.
 use native.Mathlib.Omega.{arith}
 use borrow.Author.Needs.{needs}
-use Rattle.compile.specs.Compiling.{too-short}
+use Rattle.fold.specs.Compiling.{too-short}
 use Rattle.compile.proofs.Assembled.{accepted-compilable, read-refused, read-accepted, read-compiled}
 use Rattle.compile.proofs.compile.Statement.{statement}
 use Rattle.compile.proofs.compile.Tie as tie

@@ -1,9 +1,9 @@
 -- `fold_high_power` folds product chains and short sum chains; anything else becomes a row.
 use mathlib.Core.Path.{_∙_}
 use native.Mathlib.Omega.{arith}
-use Rattle.arrays.proofs.Paired.{powers-by-word}
-use Rattle.operands.proofs.OperandLaws.{operand-some, operand-short}
-use Rattle.operands.proofs.Leaving.{room-of-one}
+use Rattle.chain_arrays.proofs.Paired.{powers-by-word}
+use Rattle.fold_operands.proofs.OperandLaws.{operand-some, operand-short}
+use Rattle.fold_operands.proofs.Leaving.{room-of-one}
 use Rattle.fold_powers.proofs.PowerChains.{times-fits}
 use Rattle.fold_powers.proofs.PowerOperands.{power-of-product, power-of-sum, power-as-row, either-way}
 use borrow.Author.Needs.{needs}

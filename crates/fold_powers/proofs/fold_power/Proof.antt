@@ -1,6 +1,6 @@
 -- `fold_power` folds constants, and the powers 0 and 1 of anything; the others are `fold_high_power`'s.
 use native.Mathlib.Omega.{arith}
-use Rattle.operands.proofs.OperandLaws.{operand-some}
+use Rattle.fold_operands.proofs.OperandLaws.{operand-some}
 use Rattle.fold_powers.proofs.PowerOperands.{power-of-constant, power-zero, power-one}
 use borrow.Author.Needs.{needs}
 use Rattle.fold_powers.proofs.fold_power.Statement.{statement}

@@ -1,9 +1,9 @@
 -- `fold_raise` folds a constant to a constant or a sum chain; anything else becomes a row.
 use mathlib.Core.Path.{_∙_}
 use native.Mathlib.Omega.{arith}
-use Rattle.arrays.proofs.Paired.{raises-by-word}
-use Rattle.operands.proofs.OperandLaws.{operands-some}
-use Rattle.operands.proofs.Leaving.{room-of-both}
+use Rattle.chain_arrays.proofs.Paired.{raises-by-word}
+use Rattle.fold_operands.proofs.OperandLaws.{operands-some}
+use Rattle.fold_operands.proofs.Leaving.{room-of-both}
 use Rattle.fold_powers.proofs.PowerOperands.{raise-folded, raise-as-row, either-way}
 use borrow.Author.Needs.{needs}
 use Rattle.fold_powers.proofs.fold_raise.Statement.{statement}

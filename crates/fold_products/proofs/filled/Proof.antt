@@ -2,7 +2,7 @@
 use mathlib.Core.Path.{ap₂, _∙_}
 use Prim.Native.Nat.{_+_}
 use lib.ListN.{take}
-use Rattle.rows.specs.Standing.{filledWithOnes}
+use Rattle.fold_rows.specs.Standing.{filledWithOnes}
 use borrow.Author.Needs.{needs}
 use Rattle.fold_products.proofs.filled.Statement.{statement}
 use Rattle.fold_products.proofs.filled.Tie as tie

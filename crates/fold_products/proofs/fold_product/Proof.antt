@@ -1,8 +1,8 @@
 -- `fold_product`: each test of the rows picks the rule of 01 that applies, and each return is that rule's law.
 use Prim.Native.Nat.{_-_}
 use native.Mathlib.Omega.{arith}
-use Rattle.operands.proofs.OperandLaws.{operands-some}
-use Rattle.operands.proofs.Leaving.{room-of-both}
+use Rattle.fold_operands.proofs.OperandLaws.{operands-some}
+use Rattle.fold_operands.proofs.Leaving.{room-of-both}
 use Rattle.fold_products.proofs.ProductOperands.{products-short, sums-say, one-left, one-right, zero-left, sums-left, products-left, row-left}
 use borrow.Author.Needs.{needs}
 use Rattle.fold_products.proofs.fold_product.Statement.{statement}

@@ -1,7 +1,7 @@
 -- `has_zero` tests both rows for the constant 0.
 use mathlib.Core.Path.{sym, ap, ap₂, _∙_}
 use mathlib.Core.Bool.{_||_}
-use Rattle.operands.proofs.OperandLaws.{constantAt}
+use Rattle.fold_operands.proofs.OperandLaws.{constantAt}
 use borrow.Author.Needs.{needs}
 use Rattle.fold_products.proofs.has_zero.Statement.{statement}
 use Rattle.fold_products.proofs.has_zero.Tie as tie

@@ -2,9 +2,9 @@
 use mathlib.Core.Path.{ap, ap₂, _∙_}
 use Rattle.chain.specs.Chain.{words}
 use Rattle.chain.specs.ProductChain.{jointProduct}
-use Rattle.arrays.proofs.Paired.{products-by-word}
-use Rattle.folding.specs.Folded.{trimmedProduct}
-use Rattle.rows.specs.Standing.{placed}
+use Rattle.chain_arrays.proofs.Paired.{products-by-word}
+use Rattle.fold.specs.Folded.{trimmedProduct}
+use Rattle.fold_rows.specs.Standing.{placed}
 use borrow.Author.Needs.{needs}
 use Rattle.fold_products.proofs.put_product_of_products.Statement.{statement}
 use Rattle.fold_products.proofs.put_product_of_products.Tie as tie

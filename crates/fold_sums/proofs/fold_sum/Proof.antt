@@ -1,7 +1,7 @@
 -- `fold_sum` adds or subtracts constants and sum chains, leaves A of A + 0, A - 0 and 0 + A and minus A of 0 - A, and otherwise appends the row.
 use native.Mathlib.Omega.{arith}
-use Rattle.operands.proofs.OperandLaws.{operand-some}
-use Rattle.operands.proofs.Leaving.{room-of-both}
+use Rattle.fold_operands.proofs.OperandLaws.{operand-some}
+use Rattle.fold_operands.proofs.Leaving.{room-of-both}
 use Rattle.fold_sums.proofs.SumOperands.{leaves-chain, leaves-left, moved-operand, leaves-alone, leaves-row}
 use borrow.Author.Needs.{needs}
 use Rattle.fold_sums.proofs.fold_sum.Statement.{statement}

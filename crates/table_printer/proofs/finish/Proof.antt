@@ -1,18 +1,9 @@
--- `finish` lends the rear of the output buffer to the end of a run, which writes no more than it is lent.
+-- `finish` lends the output buffer to the end of a run, which writes no more than it is lent.
 use native.Mathlib.Omega.{arith}
 use borrow.Author.Needs.{needs}
-use Rattle.job.proofs.OutRoom.{end-within}
+use Rattle.table_progress.proofs.OutRoom.{end-within}
 use Rattle.table_printer.proofs.finish.Statement.{statement}
 use Rattle.table_printer.proofs.finish.Tie as tie
-
-sub-finish : tie.Need-sub-finish
-sub-finish c = search needs
-
-part-finish-start : tie.Need-part-finish-start
-part-finish-start c = search needs
-
-part-finish-end : tie.Need-part-finish-end
-part-finish-end c = search needs
 
 finish-requires : tie.Need-finish-requires
 finish-requires c κs = search needs
@@ -39,13 +30,4 @@ returns c =
 pub finish-spec : {M : Type 1} → statement M
 finish-spec =
     tie.close
-    (tie.spec
-    sub-finish
-    part-finish-start
-    part-finish-end
-    finish-requires
-    same-length
-    same-length-2
-    same-length-3
-    same-length-4
-    returns)
+    (tie.spec finish-requires same-length same-length-2 same-length-3 same-length-4 returns)

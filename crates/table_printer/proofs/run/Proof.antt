@@ -9,12 +9,12 @@ use Rattle.table_printer.proofs.run.Statement.{statement}
 use Rattle.table_printer.proofs.run.Tie as tie
 
 abbrev Inv-loop : tie.InvT-loop
-Inv-loop input₀ line₀ defaults₀ plan₀ table₀ out₀ going₀ got₀ turns₀ input line defaults plan table out going got turns =
-    (got ≤ length input) × (going .filled ≤ length out) × (length input ≡ length input₀) × (length line ≡ length line₀)
-    × (length defaults ≡ length defaults₀) × (length plan ≡ length plan₀) × (length table ≡ length table₀) × (length out ≡ length out₀)
+Inv-loop input₀ line₀ defaults₀ plan₀ table₀ out₀ progress₀ got₀ turns₀ input line defaults plan table out progress got turns =
+    (got ≤ length input) × (length input ≡ length input₀) × (length line ≡ length line₀) × (length defaults ≡ length defaults₀)
+    × (length plan ≡ length plan₀) × (length table ≡ length table₀) × (length out ≡ length out₀)
 
 abbrev μ-loop : tie.MeasureT-loop
-μ-loop input₀ line₀ defaults₀ plan₀ table₀ out₀ going₀ got₀ turns₀ input line defaults plan table out going got turns = turns
+μ-loop input₀ line₀ defaults₀ plan₀ table₀ out₀ progress₀ got₀ turns₀ input line defaults plan table out progress got turns = turns
 
 start-requires : tie.Need-start-requires Inv-loop μ-loop
 start-requires c κs = search needs
@@ -66,8 +66,8 @@ sub-turns c = search needs
 
 loop-less : tie.Need-loop-less Inv-loop μ-loop
 loop-less c =
-    let taken = c .before .before .before .before .before .before .before .before .before .before .before .before .before .before in
-    let more = taken .before .before .before .before .before .before .before .before .before .before in
+    let taken = c .before .before .before .before .before .before .before .before .before .before .before .before .before .before .before .before .before in
+    let more = taken .before .before .before .before .before .before .before .before in
     omega (arith, ltb-true 0 (more .before .before .loop .turns) (more .if1 .taken))
 
 loop-again : tie.Need-loop-again Inv-loop μ-loop

@@ -1,7 +1,7 @@
 -- `step` lends the rear of the output buffer to a step, which writes no more than it is lent.
 use native.Mathlib.Omega.{arith}
 use borrow.Author.Needs.{needs}
-use Rattle.job.proofs.OutRoom.{step-within}
+use Rattle.table_progress.proofs.OutRoom.{step-within}
 use Rattle.table_printer.proofs.step.Statement.{statement}
 use Rattle.table_printer.proofs.step.Tie as tie
 

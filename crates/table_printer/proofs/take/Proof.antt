@@ -9,12 +9,12 @@ use Rattle.table_printer.proofs.take.Statement.{statement}
 use Rattle.table_printer.proofs.take.Tie as tie
 
 abbrev Inv-loop : tie.InvT-loop
-Inv-loop input line₀ defaults₀ plan₀ table₀ out₀ reached₀ at₀ line defaults plan table out reached at =
-    (at ≤ length input) × (reached .filled ≤ length out) × (length line ≡ length line₀) × (length defaults ≡ length defaults₀)
+Inv-loop input line₀ defaults₀ plan₀ table₀ out₀ going₀ at₀ line defaults plan table out going at =
+    (at ≤ length input) × (going .filled ≤ length out) × (length line ≡ length line₀) × (length defaults ≡ length defaults₀)
     × (length plan ≡ length plan₀) × (length table ≡ length table₀) × (length out ≡ length out₀)
 
 abbrev μ-loop : tie.MeasureT-loop
-μ-loop input line₀ defaults₀ plan₀ table₀ out₀ reached₀ at₀ line defaults plan table out reached at = length input - at
+μ-loop input line₀ defaults₀ plan₀ table₀ out₀ going₀ at₀ line defaults plan table out going at = length input - at
 
 loop-holds : tie.Need-loop-holds Inv-loop μ-loop
 loop-holds c = search needs
@@ -66,6 +66,18 @@ loop-less c =
 loop-again : tie.Need-loop-again Inv-loop μ-loop
 loop-again c = search needs
 
+sub-write : tie.Need-sub-write Inv-loop μ-loop
+sub-write c = search needs
+
+part-write-start : tie.Need-part-write-start Inv-loop μ-loop
+part-write-start c = search needs
+
+part-write-end : tie.Need-part-write-end Inv-loop μ-loop
+part-write-end c = search needs
+
+write-requires : tie.Need-write-requires Inv-loop μ-loop
+write-requires c κs = search needs
+
 same-length-6 : tie.Need-same-length-6 Inv-loop μ-loop
 same-length-6 c = search needs
 
@@ -104,6 +116,10 @@ take-spec =
     add-at
     loop-less
     loop-again
+    sub-write
+    part-write-start
+    part-write-end
+    write-requires
     same-length-6
     same-length-7
     same-length-8

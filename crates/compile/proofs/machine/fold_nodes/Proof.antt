@@ -3,6 +3,7 @@ use mathlib.Core.Path.{_≡_, refl}
 use Prim.Native.Nat.{_-_, _≤_}
 use native.Mathlib.Omega.{arith}
 use lib.ListN.{length}
+use Rattle.plan.specs.Measures.{mostRows}
 use Rattle.formula.specs.Tree.{Tree}
 use Rattle.compile.specs.Machine.{Compilable, Written}
 use Rattle.compile.proofs.Turns.{Turn, counted, turn-first, turn-node, turn-next, turn-done}
@@ -12,7 +13,7 @@ use Rattle.compile.proofs.machine.fold_nodes.Tie as tie
 
 abbrev Inv-loop : tie.InvT-loop
 Inv-loop plan₀ start step count end₀ n₀ plan end n =
-    (length plan ≡ length plan₀) × (n ≤ count) × (count ≤ 128)
+    (length plan ≡ length plan₀) × (n ≤ count) × (count ≤ mostRows)
     × ((t : Tree) → Compilable start step t → Written plan₀ t → Turn t start step plan₀ plan end n)
 
 abbrev μ-loop : tie.MeasureT-loop

@@ -1,4 +1,4 @@
--- `nodes` is safe and ends: there are at most 128 nodes. Nothing has to hold from turn to turn.
+-- `formula_nodes` is safe and ends: there are at most 128 nodes. Nothing has to hold from turn to turn.
 use Prim.Native.Nat.{_-_}
 use borrow.Author.Needs.{needs}
 use Rattle.edges.proofs.formulas.nodes.Statement.{statement}

@@ -5,7 +5,7 @@ use native.Mathlib.Omega.{arith}
 use lib.ListN.{length, drop, length-drop, drop-of-length-le}
 use lib.Seq.{take-all}
 use borrow.Author.Needs.{needs}
-use Rattle.fields.proofs.PartsFound.{found-inside, found-after}
+use Rattle.table.proofs.PartsFound.{found-inside, found-after}
 use Rattle.edges.proofs.text.after.Statement.{statement}
 use Rattle.edges.proofs.text.after.Tie as tie
 

@@ -2,7 +2,7 @@
 use mathlib.Core.Path.{_≡_}
 use native.Mathlib.Omega.{arith}
 use borrow.Author.Needs.{needs}
-use Rattle.fields.proofs.PartsFound.{found-inside, found-part}
+use Rattle.table.proofs.PartsFound.{found-inside, found-part}
 use Rattle.edges.proofs.text.before.Statement.{statement}
 use Rattle.edges.proofs.text.before.Tie as tie
 

@@ -2,7 +2,7 @@
 use native.Mathlib.Omega.{arith}
 use Rattle.word.proofs.Ring.{difference-found}
 use mathlib.Core.Path.{sym, _∙_}
-use Rattle.operands.proofs.OperandLaws.{operand-some, operand-short}
+use Rattle.fold_operands.proofs.OperandLaws.{operand-some, operand-short}
 use Rattle.fold_sums.proofs.SumOperands.{leaves-negated, leaves-first-negated, leaves-minus}
 use borrow.Author.Needs.{needs}
 use Rattle.fold_sums.proofs.minus.fold_minus.Statement.{statement}

@@ -1,2 +1,0 @@
--- What is worked out word by word, in the words of chains.
-pub mod Paired

@@ -1,2 +1,0 @@
--- What the contracts of `arrays` cite: what is worked out of two words, of two arrays word by word, and of a chain that is shifted.
-pub mod Operations

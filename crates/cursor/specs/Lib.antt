@@ -1,2 +1,0 @@
--- What the contracts of `cursor` cite: what is found of a text from a place on, and of a whole text.
-pub mod Whole

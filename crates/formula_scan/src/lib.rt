@@ -1,0 +1,21 @@
+// What the readers of a formula answer one another. The scan that decides the grammar, and what the readers' contracts say by it, are in specs/.
+// Nobody has to believe them: proofs/ ties them to the grammar and the refusals of `formula`. The readers are in the crates above.
+
+// A number's end, its value if it fits a word (0 if not), whether it is over, and 1 if it is odd.
+pub struct Numeral {
+    pub at: usize,
+    pub value: u64,
+    pub over: bool,
+    pub odd: u8,
+}
+
+// How far a reader came. If `ok`, it read a tree that ends before `at`: whether x stands in it, 1 if its value is odd, the nodes and the
+// least fault so far. If not, no formula goes on past `at`.
+pub struct Found {
+    pub ok: bool,
+    pub variable: bool,
+    pub odd: u8,
+    pub at: usize,
+    pub nodes: usize,
+    pub fault: u64,
+}

@@ -1,5 +1,0 @@
--- Laws for this crate's proofs and for the crates above.
-pub mod Joining
-pub mod Digits
-pub mod NumberTests
-pub mod FieldReading

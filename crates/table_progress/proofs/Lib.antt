@@ -1,0 +1,21 @@
+-- Laws of what a job prints, of lines and of steps; that steps add up to the run, that it prints what `table` says, and examples of runs.
+pub mod Holding
+pub mod LinesEnded
+pub mod StepsTaken
+pub mod Uniqueness
+pub mod Scanned
+pub mod HeldBytes
+pub mod Readiness
+pub mod WholeLines
+pub mod Stepping
+pub mod Adding
+pub mod GoingOn
+pub mod OutRoom
+pub mod Examples
+pub mod PointLines
+pub mod AllPoints
+pub mod DirectValues
+pub mod Jobs
+pub mod Lengths
+pub mod Promise
+pub mod RunPrints

@@ -1,0 +1,116 @@
+-- What a whole line does: where it leaves the run, and that every lent buffer keeps its length.
+use mathlib.Core.Path.{_≡_, refl, sym, ap, _∙_}
+use mathlib.Core.Bool.{Bool, true, false, cond}
+use mathlib.Core.List.{List}
+use Prim.Native.Nat.{ℕ, _+_, _≤_}
+use native.Mathlib.Numerals.{add-one}
+use native.Mathlib.Omega.{arith}
+use lib.ListN.{length, take, drop}
+use lib.Seq.{length-take-le, length-front, take-append-seam}
+use Rattle.plan.specs.Measures.{planLength}
+use Rattle.formula_scan.specs.Verdict.{Verdict, refused, accepted, verdict}
+use Rattle.formula_scan.proofs.Verdicts.{verdict-accepted}
+use Rattle.plan.specs.Filling.{pointValues}
+use Rattle.plan.proofs.Keeping.{length-after}
+use Rattle.plan.proofs.Sharing.{length-points}
+use Rattle.fold.specs.Folding.{fold}
+use Rattle.fold.specs.Layout.{planWords}
+use Rattle.fold.proofs.Compiled.{compiled-length}
+use Rattle.table.specs.Parts.{picked}
+use Rattle.table.specs.declared.JobLine.{JobLine}
+use Rattle.table.specs.Judged.{isHeader, judgedDefaults, judgedJob}
+use Rattle.table.proofs.PartsJudged.{job-small}
+use Rattle.table_progress.specs.Printed.{verdictPlan, verdictTable}
+use Rattle.table_progress.specs.declared.Awaited.{Awaited}
+use Rattle.table_progress.specs.declared.Awaited.the-variants.{Header, Defaults, Job, Nothing}
+use Rattle.table_progress.specs.declared.Progress.{Progress}
+use Rattle.table_progress.specs.Run.{Awaits, theHeader, theDefaults, aJob, nothing, afterLine}
+use Rattle.table_progress.specs.Steps.{awaitedBy, awaits, ended, progressBy, defaultsAfter, planAfterLine, tableAfterLine, over}
+use Rattle.table_progress.proofs.HeldBytes.{taken-short}
+use Rattle.fold.proofs.Rules.{picked as picks}
+
+-- ---- what a whole line does to the progress
+module _ (n kept : ℕ) (l buffer : List ℕ) where
+  pub line-awaits : (a : Awaited)
+      → awaits (progressBy a n kept l) (defaultsAfter (awaitedBy a n kept buffer) l buffer) ≡ afterLine (awaitedBy a n kept buffer) l
+  unfolding afterLine
+  line-awaits Header = go (isHeader l)
+    where
+      go : (t : Bool) → awaits (cond t (record { awaited = Defaults; number = 0; held = 0; kept = 0 }) ended) buffer ≡ cond t theDefaults nothing
+      go true = refl
+      go false = refl
+  line-awaits Defaults = go (judgedDefaults l .ok)
+    where
+      go : (t : Bool)
+          → awaits (cond t (record { awaited = Job; number = 1; held = 0; kept = length l }) ended) (cond t (over l buffer) buffer)
+          ≡ cond t (aJob l 1) nothing
+      go true = ap (λ s. aJob s 1) (take-append-seam l (drop (length l) buffer))
+      go false = refl
+  line-awaits Job = ap (aJob (take kept buffer)) (add-one n)
+  line-awaits Nothing = refl
+
+  -- No byte is held of the next line, as many are kept as may be, and one line more is counted at most.
+  pub line-held : (a : Awaited) → progressBy a n kept l .held ≡ 0
+  line-held Header = picks (λ (p : Progress). p .held ≡ 0) (isHeader l) (λ _. refl) (λ _. refl)
+  line-held Defaults = picks (λ (p : Progress). p .held ≡ 0) (judgedDefaults l .ok) (λ _. refl) (λ _. refl)
+  line-held Job = refl
+  line-held Nothing = refl
+
+  pub line-kept : (a : Awaited) → kept ≤ 4096 → progressBy a n kept l .kept ≤ 4096
+  line-kept Header h = picks (λ (p : Progress). p .kept ≤ 4096) (isHeader l) (λ _. omega arith) (λ _. omega arith)
+  line-kept Defaults h = picks (λ (p : Progress). p .kept ≤ 4096) (judgedDefaults l .ok) (λ e. taken-short l e) (λ _. omega arith)
+  line-kept Job h = h
+  line-kept Nothing h = omega arith
+
+  pub line-number : (a : Awaited) → progressBy a n kept l .number ≤ n + 1
+  line-number Header = picks (λ (p : Progress). p .number ≤ n + 1) (isHeader l) (λ _. omega arith) (λ _. omega arith)
+  line-number Defaults = picks (λ (p : Progress). p .number ≤ n + 1) (judgedDefaults l .ok) (λ _. omega arith) (λ _. omega arith)
+  line-number Job = omega arith
+  line-number Nothing = omega arith
+
+-- ---- the lengths of the buffers
+pub length-over : (s buffer : List ℕ) → length s ≤ length buffer → length (over s buffer) ≡ length buffer
+length-over s buffer h = length-front buffer s (length s) (sym (length-take-le (length s) buffer h))
+
+pub length-defaults : (awaits : Awaits) (l buffer : List ℕ) → 4096 ≤ length buffer → length (defaultsAfter awaits l buffer) ≡ length buffer
+length-defaults theHeader l buffer h = refl
+length-defaults theDefaults l buffer h =
+    picks (λ d. length d ≡ length buffer) (judgedDefaults l .ok) (λ e. length-over l buffer (omega (arith, taken-short l e))) (λ _. refl)
+length-defaults (aJob kept n) l buffer h = refl
+length-defaults nothing l buffer h = refl
+
+-- A formula that is taken has a plan of 2,561 words.
+length-verdict-plan : (job : JobLine) (s plan : List ℕ) (v : Verdict) → verdict s ≡ v → length plan ≡ planLength → length (verdictPlan job v plan) ≡ planLength
+unfolding verdictPlan
+length-verdict-plan job s plan (refused number place) e h = h
+length-verdict-plan job s plan (accepted t) e h =
+    length-after 64 (job .count) (planWords (fold 64 (job .start) (job .step) t))
+    ∙ compiled-length 64 (job .start) (job .step) (omega arith) (verdict-accepted s e)
+
+pub length-plan-after : (awaits : Awaits) (l plan : List ℕ) → planLength ≤ length plan → length (planAfterLine awaits l plan) ≡ length plan
+length-plan-after theHeader l plan h = refl
+length-plan-after theDefaults l plan h = refl
+length-plan-after (aJob kept n) l plan h =
+    picks (λ q. length q ≡ length plan) (judgedJob l kept .ok)
+    (λ _. length-front plan (verdictPlan (judgedJob l kept) (verdict (picked 1 l kept)) (take planLength plan)) planLength
+    (length-verdict-plan (judgedJob l kept) (picked 1 l kept) (take planLength plan) (verdict (picked 1 l kept)) refl short ∙ sym short))
+    (λ _. refl)
+  where
+    short : length (take planLength plan) ≡ planLength
+    short = length-take-le planLength plan h
+length-plan-after nothing l plan h = refl
+
+length-verdict-table : (job : JobLine) (table : List ℕ) (v : Verdict) → job .count ≤ length table → length (verdictTable job v table) ≡ length table
+unfolding verdictTable
+length-verdict-table job table (refused number place) h = refl
+length-verdict-table job table (accepted t) h =
+    length-front table (pointValues 64 (job .count) (planWords (fold 64 (job .start) (job .step) t))) (job .count)
+    (length-points 64 (job .count) (planWords (fold 64 (job .start) (job .step) t)) ∙ sym (length-take-le (job .count) table h))
+
+pub length-table-after : (awaits : Awaits) (l table : List ℕ) → 4096 ≤ length table → length (tableAfterLine awaits l table) ≡ length table
+length-table-after theHeader l table h = refl
+length-table-after theDefaults l table h = refl
+length-table-after (aJob kept n) l table h =
+    picks (λ q. length q ≡ length table) (judgedJob l kept .ok)
+    (λ _. length-verdict-table (judgedJob l kept) table (verdict (picked 1 l kept)) (omega (arith, job-small l kept .count))) (λ _. refl)
+length-table-after nothing l table h = refl
