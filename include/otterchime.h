@@ -32,6 +32,7 @@
  *    13     over 17 coefficients                                     0
  *    14     a chain given with length over 16                        0
  *    15     chain product, trimmed lengths add over 16               0
+ *    16     root row is neither a constant nor a sum chain           0
  *
  * (11 and 12 are the table printer's.) A place is an offset in the formula's bytes, from 0.
  */
@@ -54,9 +55,11 @@ extern "C" {
 /* The words of each call's answer. */
 #define OTTERCHIME_COMPILE_ANSWER 2
 #define OTTERCHIME_FILL_ANSWER 4
+#define OTTERCHIME_FILL_ERAS_ANSWER 5
 #define OTTERCHIME_COST_ANSWER 3
 #define OTTERCHIME_SOUND_ANSWER 2
 #define OTTERCHIME_CHAIN_ANSWER 20
+#define OTTERCHIME_SHIFT_ANSWER 21
 #define OTTERCHIME_VALUE_ANSWER 3
 #define OTTERCHIME_PROBE_ANSWER 4
 
@@ -82,6 +85,15 @@ void otterchime_compile(const uint8_t *text, size_t text_length, uint64_t start,
 void otterchime_fill(uint64_t *plan, size_t plan_length, uint64_t *table, size_t table_length, uint64_t budget,
                      uint64_t answer[OTTERCHIME_FILL_ANSWER]);
 
+/* Fills as otterchime_fill does, and counts eras: at each point, the last one too, with f0 and f1 the first two elements of the plan's root,
+ * a sum chain, and d the word f1 read as a signed number, +1 if f0 + d is 2^64 or more, -1 if it is below 0, else 0; a constant gives 0.
+ * The sum of these says where the root is as a whole number: its first word before the call plus all its d is its first word after the
+ * call plus 2^64 times the sum. Calls one after the other have sums that add up.
+ * answer: number, place, the points written, the budget spent, the sum as a word (convert it to int64_t). Refusals 1, 9 and then 16, with
+ * 0 points, 0 spent and sum 0. */
+void otterchime_fill_eras(uint64_t *plan, size_t plan_length, uint64_t *table, size_t table_length, uint64_t budget,
+                          uint64_t answer[OTTERCHIME_FILL_ERAS_ANSWER]);
+
 /* The cost of a plan, by the sum over its rows.
  * answer: number, place, the cost (0 if refused). Refusals 1 and 9. */
 void otterchime_cost(const uint64_t *plan, size_t plan_length, uint64_t answer[OTTERCHIME_COST_ANSWER]);
@@ -99,8 +111,10 @@ void otterchime_sound(const uint64_t *plan, size_t plan_length, uint64_t answer[
 /* f without its trailing zeros. Refusal 14. */
 void otterchime_trim(const uint64_t f[OTTERCHIME_CHAIN_WORDS], uint64_t k, uint64_t answer[OTTERCHIME_CHAIN_ANSWER]);
 
-/* f after one shift: each element but the last with its neighbour added. Refusal 14. */
-void otterchime_shift(const uint64_t f[OTTERCHIME_CHAIN_WORDS], uint64_t k, uint64_t answer[OTTERCHIME_CHAIN_ANSWER]);
+/* f after one shift: each element but the last with its neighbour added.
+ * answer: as for a chain, and behind it how the first element crossed, as a word (convert it to int64_t): with f1 read as a signed number d,
+ * 1 if f0 + d is 2^64 or more, -1 if it is below 0, else 0; 0 of a constant and of a refused call. Refusal 14. */
+void otterchime_shift(const uint64_t f[OTTERCHIME_CHAIN_WORDS], uint64_t k, uint64_t answer[OTTERCHIME_SHIFT_ANSWER]);
 
 /* The value of f at the present point.
  * answer: number, place, the word (0 if refused). Refusal 14. */

@@ -424,7 +424,13 @@ PAIR_ROWS = [[0, 0, 0, 3], [1, 1, 0, 5, 2]]
 
 
 def fills_text(fills):
-    return " ".join(f"t{room}" if budget == BUDGET else f"t{room},{budget}" for room, budget in fills)
+    """A filling is the table's length and the budget, and the letter e where eras are counted."""
+    return " ".join(f"{letter}{room}" if budget == BUDGET else f"{letter}{room},{budget}"
+                    for room, budget, letter in map(with_letter, fills))
+
+
+def with_letter(fill):
+    return fill if len(fill) == 3 else (*fill, "t")
 
 
 def plan_text(rows, fills, put, lent):
@@ -456,8 +462,11 @@ def plan(rows, *fills, put=(), lent=PLAN_WORDS, answer=None, cost=None, values=N
     name = plan_text(rows, fills, put, lent)
     table = [UNWRITTEN] * 4096
     parts = []
-    for room, budget in fills:
-        parts.append(filled(words, lent, table, room, budget % WORD, name, answer, cost))
+    for room, budget, letter in map(with_letter, fills):
+        if letter == "e":
+            parts.append(counted(words, lent, table, room, budget % WORD, name, answer))
+        else:
+            parts.append(filled(words, lent, table, room, budget % WORD, name, answer, cost))
         assert values is None or [value % WORD for value in values] == table[:len(values)], name
     assert after is None or after == words[1:1 + len(after)], name
     line(f"plan {name}", "\t".join(parts))
@@ -468,10 +477,52 @@ def filled(words, lent, table, room, budget, name, answer=None, cost=None, value
     number, total, points, spent, words[:lent], table[:room] = filling(words[:lent], table[:room], budget, value_at)
     assert answer is None or answer == number, name
     assert cost is None or cost == total, name
+    return f"sound {number} 0 cost {number} 0 {total} fill {number} 0 {points} {spent} {lent_text(words, table, points)}"
+
+
+def lent_text(words, table, points):
     shown_rows = "".join(" " + shown_row(row) for row in rows_of(words)[:min(words[0], 10)])
-    return (f"sound {number} 0 cost {number} 0 {total} fill {number} 0 {points} {spent} "
-            f"table {','.join(map(str, table[:min(points, 20) + 2]))} sum {checksum(table)} "
+    return (f"table {','.join(map(str, table[:min(points, 20) + 2]))} sum {checksum(table)} "
             f"plan {words[0]}:{shown_rows} sum {checksum(words)}")
+
+
+# ---- eras: request One of document 02
+
+def read_signed(word):
+    return (word + HALF) % WORD - HALF
+
+
+def turn(name, f):
+    """How the first element crosses in a shift: how often 2^64 goes into the sum, rounded down."""
+    if too_long(f):
+        return line(name, "14 0 0")
+    step = read_signed(f[1] % WORD) if len(f) > 1 else 0
+    line(name, f"0 0 {(f[0] % WORD + step) // WORD}")
+
+
+def era_sum(words, points):
+    """The exact position, start value plus all signed steps, is the final first element plus 2^64 times the sum. A step
+    is the value that the chain from element 1 on has at its point."""
+    kind, a, _, *f = rows_of(words)[words[0] - 1]
+    chain_of_root = f[:a + 1] if kind == 1 else f[:1]
+    position = f[0] + sum(read_signed(at(chain_of_root[1:], i) % WORD) for i in range(points))
+    eras, final = divmod(position, WORD)
+    assert final == at(chain_of_root, points) % WORD
+    return eras
+
+
+def counted(words, lent, table, room, budget, name, answer=None):
+    """Fills the lent parts with era count, and says what the program prints."""
+    number = plan_refusal(words[:lent])
+    if not number and rows_of(words)[words[0] - 1][0] > 1:
+        number = 16
+    assert answer is None or answer == number, name
+    points = spent = eras = 0
+    if not number:
+        before = words[:lent]
+        _, _, points, spent, words[:lent], table[:room] = filling(before, table[:room], budget, root_value)
+        eras = era_sum(before, points)
+    return f"eras {number} 0 {points} {spent} {eras} {lent_text(words, table, points)}"
 
 
 # ---- compiling
@@ -651,10 +702,14 @@ def compiling(name, *fills, grid=(0, 1), lent=PLAN_WORDS, answer=(0, 0), rows=No
     words += [UNWRITTEN + i for i in range(PLAN_WORDS, 3000)]
     table = [UNWRITTEN] * 4096
     done = 0
-    for room, budget in fills:
-        value_at = grid_values(nodes, grid, done)
-        parts.append(filled(words, lent, table, room, budget % WORD, name, value_at=value_at))
-        done += min(room, budget % WORD // (total + 1))
+    for room, budget, letter in map(with_letter, fills):
+        if letter == "e":
+            parts.append(counted(words, lent, table, room, budget % WORD, name))
+        else:
+            value_at = grid_values(nodes, grid, done)
+            parts.append(filled(words, lent, table, room, budget % WORD, name, value_at=value_at))
+        if letter == "t" or rows_of(words)[words[0] - 1][0] < 2:
+            done += min(room, budget % WORD // (total + 1))
         assert values is None or [value % WORD for value in values] == table[:len(values)], name
     assert after is None or after == words[1:1 + len(after)], name
     line(f"plan {name}", "\t".join(parts))
@@ -1862,6 +1917,64 @@ def job_files():
     job_file("chain-jobs>1/3^(x)>0>1>4096/>>>/")
 
 
+def turns():
+    """Both sides of each limit, constants, untrimmed chains, and words past the length."""
+    for f0, f1 in ((-1, 1), (-1, 0), (-2, 1), (-1, HALF - 1), (0, -1), (1, -1), (0, 1), (HALF - 1, HALF), (HALF, HALF),
+                   (HALF, HALF - 1), (HALF + 1, HALF - 1), (0, HALF), (-1, HALF), (-1, -1), (HALF + 1, HALF + 1)):
+        turn(f"turn {f0 % WORD}, {f1 % WORD}", [f0, f1])
+    turn("turn 5", [5])
+    turn("turn 0", [0])
+    turn("turn largest", [-1])
+    turn("turn a step of 0, and more", [-1, 0, -1])
+    turn("turn up, zeros past it", [-1, 1, 0, 0])
+    turn("turn down, zeros past it", [0, -1, 0, 0])
+    turn("turn largest, zeros past it", [-1, 0, 0, 0])
+    turn("turn i^3", [0, 1, 6, 6])
+    turn("turn length 16", MIXED)
+    turn("turn length 1 of 17 words", MIXED[:2])
+    turn("turn length 0 of 17 words", OTHER[:1])
+    turn("turn length 17", [-1] * 18)
+    turn("turn length 17 of 17 words", MIXED + [0])
+    turn("turn length 2^64-1", MIXED + [0])
+
+
+def eras():
+    """Both sides of each limit in a filling, roots of every kind, refusals in their order, and budgets for none."""
+    for f0, f1 in ((-1, 1), (-2, 1), (0, -1), (1, -1), (HALF - 1, HALF), (HALF, HALF), (HALF, HALF - 1), (HALF + 1, HALF - 1)):
+        plan([[1, 1, 0, f0, f1]], (1, BUDGET, "e"), answer=0)
+        plan([[1, 1, 0, f0, f1]], (4, BUDGET, "e"), (9, MOST, "e"), answer=0)
+    plan([[1, 2, 0, -1, 0, 1]], (1, MOST, "e"), (1, MOST, "e"), (2, MOST, "e"))
+    plan([[1, 4, 0, -1, 1, 0, 0, 0]], (3, MOST, "e"))
+    plan([[1, 2, 0, HALF, 2**62, 2**62]], (20, MOST, "e"))
+    plan([[1, 16, 0] + MIXED], (20, MOST, "e"), (4096, MOST, "e"))
+    plan([[1, 16, 0] + OTHER], (0, MOST, "e"), (5, 17 * 3, "e"), (5, 16, "e"), (5, 0, "e"), (7, MOST), (8, MOST, "e"))
+    plan([[0, 0, 0, -1]], (3, BUDGET, "e"), (0, MOST, "e"), (3, 0, "e"), answer=0)
+    plan(PAIR_ROWS, (3, BUDGET, "e"), answer=0)
+    plan(PAIR_ROWS + [[8, 0, 1], [1, 1, 0, -3, 2]], (4, BUDGET, "e"), (4, 130, "e"), (4, 129, "e"), answer=0)
+    for root in ([2, 1, 0, 5, 3], [3, 0, 1], [4, 0, 1], [5, 0, 1], [6, 1], [7, 1, 2], [8, 0, 1]):
+        plan(PAIR_ROWS + [root], (3, BUDGET, "e"), (0, 0, "e"), answer=16)
+        plan(PAIR_ROWS + [root], (3, BUDGET, "e"), put=[(40, [7])], answer=9)
+        plan(PAIR_ROWS + [root], (3, BUDGET, "e"), lent=2560, answer=1)
+    plan(PAIR_ROWS + [[1, 1, 0, -1, 1]], (3, BUDGET, "e"), lent=2560, answer=1)
+    plan(PAIR_ROWS + [[1, 0, 0, 5]], (3, BUDGET, "e"), answer=9)
+    plan(PAIR_ROWS + [[9]], (3, BUDGET, "e"), answer=9)
+
+
+def drill():
+    """Stamps with the seconds since 1900 in the upper 32 bits: every second across 2036-02-07 06:28:16 UTC."""
+    second = 2**32
+    before = WORD - 4 * second
+    for calls in ([8], [1, 4, 3], [4, 4], [3, 1, 1, 3], [0, 5, 0, 3]):
+        compiling("x", *((room, MOST, "e") for room in calls), grid=(before, second))
+    compiling("x", (8, MOST), grid=(before, second), values=[before + i * second for i in range(8)])
+    compiling("x", (3, MOST), (3, MOST, "e"), (2, MOST), grid=(before, second))
+    compiling("0-x", (8, MOST, "e"), grid=(before, second))
+    compiling("x+1073741824", (8, 3, "e"), (8, 2, "e"), (8, 14, "e"), grid=(before, second))
+    compiling(f"{before}+4294967296*x+65536*x^2", (8, MOST, "e"), (8, MOST, "e"))
+    compiling("x", (4, MOST, "e"), grid=(before, 0))
+    compiling("x+3^(x)", (3, MOST, "e"), (3, MOST))
+
+
 if __name__ == "__main__":
     chains()
     sums()
@@ -1907,3 +2020,6 @@ if __name__ == "__main__":
     refused_headers()
     refused_defaults()
     job_files()
+    turns()
+    eras()
+    drill()

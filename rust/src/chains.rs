@@ -28,9 +28,20 @@ pub fn trim(f: &Words, k: u64) -> Result<Chain, Refusal> {
     chain(|answer| unsafe { raw::otterchime_trim(f, k, answer) })
 }
 
+/// A chain after one shift, and how its first element crossed: with f1 read as a signed number d, 1 if f0 + d is 2^64 or more, -1 if it is
+/// below 0, else 0; 0 of a constant.
+#[derive(Clone, Copy, Debug, PartialEq, Eq)]
+pub struct Shifted {
+    pub chain: Chain,
+    pub crossing: i64,
+}
+
 /// The chain after one shift: each element but the last with its neighbour added.
-pub fn shift(f: &Words, k: u64) -> Result<Chain, Refusal> {
-    chain(|answer| unsafe { raw::otterchime_shift(f, k, answer) })
+pub fn shift(f: &Words, k: u64) -> Result<Shifted, Refusal> {
+    let mut answer = [0; 21];
+    unsafe { raw::otterchime_shift(f, k, &mut answer) };
+    let [number, place, length, words @ .., crossing] = answer;
+    Refusal::of(number, place).map(|()| Shifted { chain: Chain { length: length as usize, words }, crossing: crossing as i64 })
 }
 
 /// The word at the present point.

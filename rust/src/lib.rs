@@ -27,9 +27,9 @@ mod readings;
 mod refusal;
 
 #[cfg(otterchime_linked)]
-pub use chains::{difference, from_coefficients, product, shift, sum, trim, value, Chain};
+pub use chains::{difference, from_coefficients, product, shift, sum, trim, value, Chain, Shifted};
 #[cfg(otterchime_linked)]
-pub use plans::{compile, cost, fill, sound, Filled, Plan};
+pub use plans::{compile, cost, fill, fill_eras, sound, Filled, FilledEras, Plan};
 #[cfg(otterchime_linked)]
 pub use readings::{probe, Probed, Verdict};
 pub use refusal::Refusal;

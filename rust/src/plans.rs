@@ -8,6 +8,14 @@ pub struct Filled {
     pub spent: u64,
 }
 
+/// What an accepted fill with era count did: `sum` is how often the root ran past the end of an era, less how often it ran below 0.
+#[derive(Clone, Copy, Debug, PartialEq, Eq)]
+pub struct FilledEras {
+    pub points: usize,
+    pub spent: u64,
+    pub sum: i64,
+}
+
 /// Compiles a formula on the grid x = start + i * step into the first 2,561 words of the plan.
 pub fn compile(text: &[u8], start: u64, step: u64, plan: &mut [u64]) -> Result<(), Refusal> {
     let mut answer = [0; 2];
@@ -24,6 +32,16 @@ pub fn fill(plan: &mut [u64], table: &mut [u64], budget: u64) -> Result<Filled, 
     unsafe { raw::otterchime_fill(plan.as_mut_ptr(), plan.len(), table.as_mut_ptr(), table.len(), budget, &mut answer) };
     let [number, place, points, spent] = answer;
     Refusal::of(number, place).map(|()| Filled { points: points as usize, spent })
+}
+
+/// The same, and the crossings of the root over the points written. Refused where the root is neither a constant nor a sum chain.
+/// The root's first element as a whole number, start value plus all signed steps, is its first element in the plan now plus 2^64 times the sum.
+pub fn fill_eras(plan: &mut [u64], table: &mut [u64], budget: u64) -> Result<FilledEras, Refusal> {
+    let mut answer = [0; 5];
+    // SAFETY: as in `compile`.
+    unsafe { raw::otterchime_fill_eras(plan.as_mut_ptr(), plan.len(), table.as_mut_ptr(), table.len(), budget, &mut answer) };
+    let [number, place, points, spent, sum] = answer;
+    Refusal::of(number, place).map(|()| FilledEras { points: points as usize, spent, sum: sum as i64 })
 }
 
 /// What a plan costs. A point costs one more.
@@ -44,7 +62,7 @@ pub fn sound(plan: &[u64]) -> Result<(), Refusal> {
     Refusal::of(number, place)
 }
 
-/// A compiled plan. It is sound, and stays so while it is filled by, so no call on it is refused.
+/// A compiled plan. It is sound, and stays so while it is filled by, so no call on it is refused but `fill_eras`, by its root.
 #[derive(Clone, Debug, PartialEq, Eq)]
 pub struct Plan(Vec<u64>);
 
@@ -56,6 +74,10 @@ impl Plan {
 
     pub fn fill(&mut self, table: &mut [u64], budget: u64) -> Filled {
         fill(&mut self.0, table, budget).expect("a compiled plan is sound")
+    }
+
+    pub fn fill_eras(&mut self, table: &mut [u64], budget: u64) -> Result<FilledEras, Refusal> {
+        fill_eras(&mut self.0, table, budget)
     }
 
     pub fn cost(&self) -> u64 {

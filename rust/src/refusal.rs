@@ -16,6 +16,7 @@ pub enum Refusal {
     TooManyCoefficients,
     ChainTooLong,
     ProductTooLong,
+    RootWithoutEras,
 }
 
 use Refusal::*;
@@ -40,6 +41,7 @@ impl Refusal {
             13 => TooManyCoefficients,
             14 => ChainTooLong,
             15 => ProductTooLong,
+            16 => RootWithoutEras,
             other => unreachable!("no call of the library is refused {other}"),
         })
     }
@@ -59,6 +61,7 @@ impl Refusal {
             TooManyCoefficients => 13,
             ChainTooLong => 14,
             ProductTooLong => 15,
+            RootWithoutEras => 16,
         }
     }
 
@@ -86,6 +89,7 @@ impl Refusal {
             TooManyCoefficients => "there are over 17 coefficients",
             ChainTooLong => "a chain has a length over 16",
             ProductTooLong => "the lengths of the factors add over 16",
+            RootWithoutEras => "the plan's root is neither a constant nor a sum chain",
         }
     }
 }

@@ -12,3 +12,4 @@ pub mod Tables
 pub mod CoefficientLaws
 pub mod OntoTable
 pub mod Promises
+pub mod CrossingLaws

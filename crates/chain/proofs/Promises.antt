@@ -1,14 +1,19 @@
 -- Two facts of every public call: any two answers that meet its contract are equal, and words past the given length are not read
 -- (inputs that agree up to the length get the same answer).
 use mathlib.Core.Path.{_≡_, ap, ap₂}
+use mathlib.Core.Bool.{cond}
 use mathlib.Core.List.{List}
 use Prim.Native.Nat.{ℕ, _+_}
+use lib.Dec.{ltb}
+use lib.IntN.{pos}
 use lib.ListN.{take}
 use Rattle.word.proofs.Unique.{both-are}
 use Rattle.chain.specs.declared.ChainAnswer.{ChainAnswer}
+use Rattle.chain.specs.declared.ShiftAnswer.{ShiftAnswer}
 use Rattle.chain.specs.declared.ValueAnswer.{ValueAnswer}
 use Rattle.chain.specs.Chain.{words, trimmed}
-use Rattle.chain.specs.Answer.{answered, chain, given, unlessLong, unlessOver, trimOutcome, sumOutcome, differenceOutcome, productOutcome, shiftOutcome, coefficientsOutcome, valueAnswer}
+use Rattle.chain.specs.Answer.{answered, chain, given, unlessLong, unlessOver, trimOutcome, sumOutcome, differenceOutcome, productOutcome, withCrossing, shiftAnswer, coefficientsOutcome, valueAnswer}
+use Rattle.chain.specs.Crossing.{crossing}
 use Rattle.chain.specs.SumChain as SumChain
 
 -- ---- any two conforming answers are equal
@@ -27,8 +32,7 @@ pub product-unique : (f : List ℕ) (k : ℕ) (g : List ℕ) (l : ℕ) (r s : Ch
     → r ≡ answered (productOutcome 64 f k g l) → s ≡ answered (productOutcome 64 f k g l) → r ≡ s
 product-unique f k g l r s = both-are
 
-pub shift-unique : (f : List ℕ) (k : ℕ) (r s : ChainAnswer)
-    → r ≡ answered (shiftOutcome 64 f k) → s ≡ answered (shiftOutcome 64 f k) → r ≡ s
+pub shift-unique : (f : List ℕ) (k : ℕ) (r s : ShiftAnswer) → r ≡ shiftAnswer 64 f k → s ≡ shiftAnswer 64 f k → r ≡ s
 shift-unique f k r s = both-are
 
 pub value-unique : (f : List ℕ) (k : ℕ) (r s : ValueAnswer) → r ≡ valueAnswer f k → s ≡ valueAnswer f k → r ≡ s
@@ -47,8 +51,10 @@ module _ (w : ℕ) (f f′ : List ℕ) (k : ℕ) (same : take (k + 1) f ≡ take
   pub trim-reads : trimOutcome f k ≡ trimOutcome f′ k
   trim-reads = ap (λ h. unlessLong k (chain h)) (given-same f f′ k same)
 
-  pub shift-reads : shiftOutcome w f k ≡ shiftOutcome w f′ k
-  shift-reads = ap (λ h. unlessLong k (chain (trimmed 0 (words w (SumChain.sumShift h))))) (given-same f f′ k same)
+  pub shift-reads : shiftAnswer w f k ≡ shiftAnswer w f′ k
+  shift-reads =
+      ap (λ h. withCrossing (answered (unlessLong k (chain (trimmed 0 (words w (SumChain.sumShift h)))))) (cond (ltb 16 k) (pos 0) (crossing w h)))
+      (given-same f f′ k same)
 
   pub value-reads : valueAnswer f k ≡ valueAnswer f′ k
   value-reads = rw (given-same f f′ k same)

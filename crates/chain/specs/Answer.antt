@@ -4,12 +4,15 @@ use mathlib.Core.Bool.{cond}
 use mathlib.Core.List.{List, []}
 use Prim.Native.Nat.{ℕ, _+_, _-_}
 use lib.Dec.{ltb}
+use lib.IntN.{ℤ, pos}
 use lib.ListN.{length, take}
 use Rattle.chain.specs.declared.ChainAnswer.{ChainAnswer}
+use Rattle.chain.specs.declared.ShiftAnswer.{ShiftAnswer}
 use Rattle.chain.specs.declared.ValueAnswer.{ValueAnswer}
 use Rattle.chain.specs.Chain.{value, words, trimmed, row}
 use Rattle.chain.specs.SumChain as SumChain
 use Rattle.chain.specs.Coefficients.{fromCoefficients}
+use Rattle.chain.specs.Crossing.{crossing}
 
 -- What a call comes to: a refusal's number, or a trimmed sum chain.
 pub data Outcome : Type 0 where
@@ -51,6 +54,13 @@ productOutcome w f k g l =
 
 abbrev pub shiftOutcome : ℕ → List ℕ → ℕ → Outcome
 shiftOutcome w f k = unlessLong k (chain (trimmed 0 (words w (SumChain.sumShift (given f k)))))
+
+-- Request One of 02: "Each sum chain shift shall also say how its first element crossed"; "a constant or a refusal says 0". Inputs are trimmed first here too.
+abbrev pub withCrossing : ChainAnswer → ℤ → ShiftAnswer
+withCrossing r z = record { number = r .number; place = r .place; length = r .length; elements = r .elements; crossing = z }
+
+abbrev pub shiftAnswer : ℕ → List ℕ → ℕ → ShiftAnswer
+shiftAnswer w f k = withCrossing (answered (shiftOutcome w f k)) (cond (ltb 16 k) (pos 0) (crossing w (given f k)))
 
 -- "13: over 17 coefficients"; "The chain is given trimmed. An empty list is the constant 0."
 abbrev pub coefficientsOutcome : ℕ → List ℕ → Outcome

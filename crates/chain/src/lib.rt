@@ -9,7 +9,16 @@ pub struct ChainAnswer {
     pub elements: [u64; 17],
 }
 
-// The same with the present value alone.
+// The same of a shift, and how its first element crossed: -1, 0 or 1, and 0 beside a refusal.
+pub struct ShiftAnswer {
+    pub number: u64,
+    pub place: u64,
+    pub length: usize,
+    pub elements: [u64; 17],
+    pub crossing: i64,
+}
+
+// A refusal's number and place with the present value alone.
 pub struct ValueAnswer {
     pub number: u64,
     pub place: u64,

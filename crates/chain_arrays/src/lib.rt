@@ -5,9 +5,14 @@ ghost use mathlib.Core.Path.{_≡_};
 ghost use mathlib.Core.List.{[]};
 ghost use Prim.Native.Nat.{_+_, _-_, _≤_};
 ghost use lib.ListN.{length, take};
+ghost use Rattle.word.specs.Signed.{signed};
 ghost use Rattle.chain.specs.Chain.{trimmed, row};
+ghost use Rattle.chain.specs.Crossing.{crossedBy};
 ghost use Rattle.chain.specs.Answer.{answered, refused, chain};
 ghost use Rattle.chain_arrays.specs.Operations.{worked, wordByWord, shiftedBy};
+
+// 2^63: the least word that reads as a negative number.
+const NEGATIVE: u64 = 9223372036854775808;
 
 // What is worked out of two words.
 pub enum Operation {
@@ -88,6 +93,23 @@ pub fn shift_part(operation: Operation, f: &mut [u64])
         f[at] = worked(operation, f[at], f[at + 1]);
         left -= 1;
     }
+}
+
+// How a first element a crosses in one shift by b, read as a signed number: whether the words add past the largest one tells it.
+pub fn crossed(a: u64, b: u64) -> i64
+    ensures { λ r. ⌜ r ≡ crossedBy 64 a (signed 64 b) ⌝ }
+{
+    let room = u64::MAX - a;
+    if b < NEGATIVE {
+        if room < b {
+            return 1;
+        }
+        return 0;
+    }
+    if room < b {
+        return 0;
+    }
+    -1
 }
 
 // The words of an array laid into a lent part that is as long.

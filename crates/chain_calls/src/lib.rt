@@ -1,6 +1,7 @@
 // Sum chains for callers: trim, sum, difference, product, shift and value, each with its refusals.
 // A chain is an array of 17 words by value with its length. The work on arrays is in `chain_arrays` and `chain_products`; formulas and plans live above.
 use chain::ChainAnswer;
+use chain::ShiftAnswer;
 use chain::ValueAnswer;
 use chain_arrays::Operation;
 use chain_arrays::accepted;
@@ -10,7 +11,7 @@ ghost use Prim.Native.Nat.{_+_};
 ghost use lib.ListN.{take};
 ghost use Rattle.chain.specs.Chain.{trimmed, row};
 ghost use Rattle.chain_arrays.specs.Operations.{wordByWord};
-ghost use Rattle.chain.specs.Answer.{answered, chain, unlessLong, trimOutcome, sumOutcome, differenceOutcome, productOutcome, shiftOutcome, valueAnswer};
+ghost use Rattle.chain.specs.Answer.{answered, chain, unlessLong, trimOutcome, sumOutcome, differenceOutcome, productOutcome, shiftAnswer, valueAnswer};
 
 // The longest chain, and the longest product.
 const LONGEST: usize = 16;
@@ -80,15 +81,29 @@ pub fn product(f: [u64; 17], k: usize, g: [u64; 17], l: usize) -> ChainAnswer
     accepted(chain_products::product_words(f_kept, f_trimmed, g_kept, g_trimmed))
 }
 
-pub fn shift(f: [u64; 17], k: usize) -> ChainAnswer
-    ensures { λ r. ⌜ r ≡ answered (shiftOutcome 64 f k) ⌝ }
+// The chain after one shift, and how its first element crossed. Past the length the kept words are 0, so a constant does not cross.
+pub fn shift(f: [u64; 17], k: usize) -> ShiftAnswer
+    ensures { λ r. ⌜ r ≡ shiftAnswer 64 f k ⌝ }
 {
     if LONGEST < k {
-        return refusal(14);
+        return ShiftAnswer {
+            number: 14,
+            place: 0,
+            length: 0,
+            elements: chain_arrays::zeros(),
+            crossing: 0,
+        };
     }
     let mut shifted = chain_arrays::kept(f, k);
+    let crossing = chain_arrays::crossed(shifted[0], shifted[1]);
     chain_arrays::shift_part(Operation::Sum, &mut shifted);
-    accepted(shifted)
+    ShiftAnswer {
+        number: 0,
+        place: 0,
+        length: chain_arrays::trimmed_length(shifted, 0),
+        elements: shifted,
+        crossing,
+    }
 }
 
 // The word at the present point.

@@ -5,16 +5,18 @@
 use mathlib.Core.Path.{_≡_, refl, sym, ap, subst, _∙_}
 use mathlib.Core.Bool.{true, false}
 use mathlib.Core.Logic.{_↔_, _⊎_, inl, inr}
-use mathlib.Core.List.{List, [], _++_}
+use mathlib.Core.List.{List, [], _∷_, _++_}
 use Prim.Native.Nat.{ℕ, suc, _+_, _-_, _*_, _%_, _^_, _≤_, _<_}
 use native.Mathlib.Nat.{mul-one}
 use native.Mathlib.Omega.{arith}
 use lib.ListN.{length, getD, take, drop, replicate}
-use lib.IntN.{pos, negℤ}
+use lib.IntN.{ℤ, pos, negsuc, negℤ, _+ℤ_, _*ℤ_}
 use lib.Signed.{_<ℤ_, _≤ℤ_}
 use borrow.Author.Tests.{lt-ltb, le-ltb}
 use Rattle.plan.specs.Measures.{planLength}
 use Rattle.word.specs.Word as Word
+use Rattle.word.specs.Signed as Signed
+use Rattle.word.specs.Signed.{half, signed}
 use Rattle.word.proofs.Unique as WordPromises
 use Rattle.word.proofs.Unique.{both-are}
 use Rattle.formula.specs.declared.ReadAnswer.{ReadAnswer}
@@ -25,24 +27,31 @@ use Rattle.formula.specs.Refusals.{count, TooDeep, StopsAt, Fault, too-long, to
 use Rattle.formula_scan.proofs.Answers.{accepted-fits, accepted-base, reading-unique}
 use Rattle.formula_scan.proofs.GrammarScan.{unambiguous, decided}
 use Rattle.chain.specs.declared.ChainAnswer.{ChainAnswer}
+use Rattle.chain.specs.declared.ShiftAnswer.{ShiftAnswer}
 use Rattle.chain.specs.declared.ValueAnswer.{ValueAnswer}
 use Rattle.chain.specs.Chain as Chain
 use Rattle.chain.specs.SumChain.{sumAt}
 use Rattle.chain.specs.ProductChain.{productAt}
 use Rattle.chain.specs.Coefficients.{polynomial}
-use Rattle.chain.specs.Answer.{answered, chain, given, trimOutcome, sumOutcome, differenceOutcome, productOutcome, shiftOutcome, coefficientsOutcome, valueAnswer}
+use Rattle.chain.specs.Crossing.{crossing}
+use Rattle.chain.specs.Answer.{answered, chain, given, trimOutcome, sumOutcome, differenceOutcome, productOutcome, shiftOutcome, withCrossing, shiftAnswer, coefficientsOutcome, valueAnswer}
 use Rattle.chain.proofs.Values as Values
 use Rattle.chain.proofs.SumLaws as SumLaws
 use Rattle.chain.proofs.ProductLaws.{value-product-words}
 use Rattle.chain.proofs.Promises as ChainPromises
+use Rattle.chain.proofs.CrossingLaws as Crossing
 use Rattle.plan.specs.declared.FillAnswer.{FillAnswer}
+use Rattle.plan.specs.declared.FillErasAnswer.{FillErasAnswer}
 use Rattle.plan.specs.declared.CostAnswer.{CostAnswer}
 use Rattle.plan.specs.declared.SoundAnswer.{SoundAnswer}
 use Rattle.plan.specs.Plan as Plan
+use Rattle.plan.specs.Row.{firstElement}
 use Rattle.plan.specs.Points.{rootValue}
 use Rattle.plan.specs.Filling.{pointCost, pointsFor, planAfter, filled, fillRefused, fill, costAnswer, soundAnswer}
 use Rattle.plan.proofs.Accepting.{refused-alters-nothing}
 use Rattle.plan.proofs.Sharing as Sharing
+use Rattle.plan.specs.Eras.{rootRow, erasOver, position, AreWords, constantOrSum, erasRefusal, withSum, fillEras, sumOf}
+use Rattle.plan.proofs.EraLaws as Eras
 use Rattle.plan.specs.Calls.{Call, planLeft, pointsOf, written}
 use Rattle.fold.specs.Folding.{fold}
 use Rattle.fold.specs.Layout.{planWords}
@@ -54,7 +63,7 @@ use Rattle.fold.proofs.Promise.{compiling-unique}
 use Rattle.probe.specs.declared.ProbeAnswer.{ProbeAnswer}
 use Rattle.probe.specs.declared.Verdict.the-variants.{NoVerdict}
 use Rattle.probe.specs.Probe as ProbeSpec
-use Rattle.probe.specs.Probe.{half, offset, verdict, verdictWord, ahead, behind, within, probeAnswer}
+use Rattle.probe.specs.Probe.{offset, verdict, verdictWord, ahead, behind, within, probeAnswer}
 use Rattle.probe.proofs.Laws as Probe
 use Rattle.table.specs.Parts.{lineFeed}
 use Rattle.table.specs.Run.{RunPrints}
@@ -164,7 +173,7 @@ refused-fill-keeps p table budget some =
 -- ---- the chain calls: "Refused chain calls (13 to 15) return the constant 0 beside the number", place 0, which is `noChain`
 -- "14: a chain given with length over 16", of one chain or of either of two, and ahead of 15; "A refused value call answers the word 0".
 pub chain-long : (f : List ℕ) (k : ℕ) → 16 < k
-    → (answered (trimOutcome f k) ≡ noChain 14) × (answered (shiftOutcome 64 f k) ≡ noChain 14)
+    → (answered (trimOutcome f k) ≡ noChain 14) × (shiftAnswer 64 f k ≡ withCrossing (noChain 14) (pos 0))
     × (valueAnswer f k ≡ record { number = 14; place = 0; word = 0 })
 unfolding Chain.row
 chain-long f k over = rw (lt-ltb 16 k over) (refl, refl, refl)
@@ -275,8 +284,10 @@ module _ (f : List ℕ) (k : ℕ) (fits : k ≤ 16) where
   pub trim-right : Answers (answered (trimOutcome f k)) (valueOf f k)
   trim-right = rw (le-ltb 16 k fits) (answers (take (k + 1) f) (Bridges.taken-short f k fits) (λ i. refl))
 
-  pub shift-right : Answers (answered (shiftOutcome 64 f k)) (λ i. valueOf f k (suc i))
-  shift-right = rw (le-ltb 16 k fits) (answers _ (Bridges.shift-short f k fits) (Bridges.shift-value f k))
+  pub shift-right :
+      (shiftAnswer 64 f k ≡ withCrossing (answered (shiftOutcome 64 f k)) (crossing 64 (given f k)))
+      × Answers (answered (shiftOutcome 64 f k)) (λ i. valueOf f k (suc i))
+  shift-right = rw (le-ltb 16 k fits) (refl, answers _ (Bridges.shift-short f k fits) (Bridges.shift-value f k))
 
   pub value-right : valueAnswer f k ≡ record { number = 0; place = 0; word = sumAt (take (k + 1) f) 0 }
   unfolding Chain.trimmed
@@ -311,7 +322,7 @@ module _ (reading expected tolerance : ℕ) (fits : tolerance < 2 ^ 63) where
   pub offset-right :
       let probed = probeAnswer reading expected tolerance in
       (negℤ (pos (2 ^ 63)) ≤ℤ probed .offset) × (probed .offset ≤ℤ pos (2 ^ 63 - 1))
-      × (Word.sum 64 (ProbeSpec.wordOf 64 (probed .offset)) expected ≡ Word.word 64 reading)
+      × (Word.sum 64 (Signed.wordOf 64 (probed .offset)) expected ≡ Word.word 64 reading)
   offset-right =
       let (least, greatest) = Probe.offset-range 64 reading expected (omega arith) in
       rw probe-accepts (least, greatest, Probe.offset-word 64 reading expected)
@@ -376,6 +387,107 @@ module _ {s : List ℕ} {start step : ℕ} {lent : List ℕ} {r : CompileAnswer}
       → (Plan.row q 0 ≡ Plan.row q′ 0) ↔ ((i : ℕ) → i ≤ 16 → directValue 64 start step t i ≡ directValue 64 start′ step′ t′ i)
   equal-chains = Bridges.their-rows call nought means call′ nought′ means′
 
+-- ======== Request One of document 02: "Each sum chain shift shall also say how its first element crossed: with f1 read as a signed number d, +1 if f0 + d
+-- is 2^64 or more, -1 if it is below 0, else 0; a constant or a refusal says 0." Sums of signed numbers are whole numbers, with no modulus.
+module _ (f : List ℕ) (k : ℕ) (fits : k ≤ 16) {a b : ℕ} {more : List ℕ} (trims : given f k ≡ a ∷ b ∷ more) where
+  pub crosses-up : pos (2 ^ 64) ≤ℤ (pos a +ℤ signed 64 b) → shiftAnswer 64 f k .crossing ≡ pos 1
+  crosses-up over = rw (le-ltb 16 k fits, trims) (Crossing.told-up 64 a (signed 64 b) over)
+
+  pub crosses-down : (pos a +ℤ signed 64 b) <ℤ pos 0 → shiftAnswer 64 f k .crossing ≡ negsuc 0
+  crosses-down below = rw (le-ltb 16 k fits, trims) (Crossing.told-down 64 a (signed 64 b) below)
+
+  pub crosses-not : pos 0 ≤ℤ (pos a +ℤ signed 64 b) → (pos a +ℤ signed 64 b) <ℤ pos (2 ^ 64) → shiftAnswer 64 f k .crossing ≡ pos 0
+  crosses-not low high = rw (le-ltb 16 k fits, trims) (Crossing.told-neither 64 a (signed 64 b) low high)
+
+  -- f0 + d is the first element that the shift leaves and 2^64 times the crossing.
+  pub shift-exact : a < 2 ^ 64 → b < 2 ^ 64
+      → pos a +ℤ signed 64 b ≡ pos ((a + b) % 2 ^ 64) +ℤ pos (2 ^ 64) *ℤ (shiftAnswer 64 f k .crossing)
+  shift-exact low high = rw (le-ltb 16 k fits, trims) (Crossing.exact-words 64 a b low high)
+
+pub constant-stays : (f : List ℕ) (k : ℕ) {a : ℕ} → given f k ≡ a ∷ [] → shiftAnswer 64 f k .crossing ≡ pos 0
+constant-stays f k trims = Crossing.told-constant 64 f k trims
+
+-- "Refusals: 16, root row is not a constant or sum chain, place 0, after 9; a refused call answers 0 points, spent and sum." `withSum` of `fillRefused` has
+-- table and plan as they were.
+pub eras-short : (p table : List ℕ) (budget : ℕ) → length p < planLength → fillEras 64 p table budget ≡ withSum (fillRefused 1 p table) (pos 0)
+unfolding fillEras erasRefusal
+eras-short p table budget short = rw (lt-ltb (length p) planLength short)
+
+pub eras-unsound : (p table : List ℕ) (budget : ℕ) → planLength ≤ length p → Plan.sound p ≡ false
+    → fillEras 64 p table budget ≡ withSum (fillRefused 9 p table) (pos 0)
+unfolding fillEras erasRefusal
+eras-unsound p table budget whole unsound = rw (le-ltb (length p) planLength whole, unsound)
+
+pub eras-other-root : (p table : List ℕ) (budget : ℕ) → planLength ≤ length p → Plan.sound p ≡ true → constantOrSum (rootRow p) ≡ false
+    → fillEras 64 p table budget ≡ withSum (fillRefused 16 p table) (pos 0)
+unfolding fillEras erasRefusal
+eras-other-root p table budget whole sound other = rw (le-ltb (length p) planLength whole, sound, other)
+
+-- Otherwise the call is accepted, and is a fill with the sum: "Filling with era count is a new call beside the old one"; "Filling adds these up for the root
+-- over the points written".
+pub eras-fills : (p table : List ℕ) (budget : ℕ) → planLength ≤ length p → Plan.sound p ≡ true → constantOrSum (rootRow p) ≡ true
+    → fillEras 64 p table budget ≡ withSum (fill 64 p table budget) (erasOver 64 (fill 64 p table budget .answer .points) p)
+unfolding erasRefusal
+eras-fills p table budget whole sound told =
+    Eras.accepted-fills 64 p table budget (rw (le-ltb (length p) planLength whole, sound, told))
+
+-- Every refusal alters neither table nor plan.
+pub refused-eras-keeps : (p table : List ℕ) (budget : ℕ) → (fillEras 64 p table budget .answer .number ≡ 0 → ⊥)
+    → (fillEras 64 p table budget .table ≡ table) × (fillEras 64 p table budget .plan ≡ p) × (fillEras 64 p table budget .answer .points ≡ 0)
+    × (fillEras 64 p table budget .answer .spent ≡ 0) × (fillEras 64 p table budget .answer .sum ≡ pos 0)
+refused-eras-keeps p table budget some =
+    rw (Eras.refused-alters-nothing 64 p table budget (λ e. some (Eras.number-is 64 p table budget ∙ e))) (refl, refl, refl, refl, refl)
+
+module _ (p table : List ℕ) (budget : ℕ) (nought : fillEras 64 p table budget .answer .number ≡ 0) where
+  -- "The exact position, start value plus all signed steps, must equal the final first element plus 2^64 times the sum": of every plan, table and budget
+  -- that are not refused, in whole numbers. `AreWords` says that the lent plan holds words.
+  pub exact-position : AreWords 64 p
+      → let done = fillEras 64 p table budget in
+      position 64 (done .answer .points) p ≡ pos (firstElement (rootRow (done .plan))) +ℤ pos (2 ^ 64) *ℤ (done .answer .sum)
+  exact-position words = Eras.exact-call p table budget nought words
+
+  -- The sum is a signed number of 64 bits, whatever the budget.
+  pub sum-fits : budget < 2 ^ 64
+      → (negℤ (pos (2 ^ 63)) ≤ℤ (fillEras 64 p table budget .answer .sum)) × ((fillEras 64 p table budget .answer .sum) ≤ℤ pos (2 ^ 63 - 1))
+  sum-fits few = Eras.sum-fits p table budget nought few
+
+  -- "Demand 3 reads as before": points, spent, table and plan are those of a fill, so all that is said of a fill above holds of this call.
+  pub eras-as-fill :
+      let done = fillEras 64 p table budget in
+      let plain = fill 64 p table budget in
+      (done .answer .points ≡ plain .answer .points) × (done .answer .spent ≡ plain .answer .spent) × (done .table ≡ plain .table)
+      × (done .plan ≡ plain .plan)
+  eras-as-fill = rw (Eras.accepted-fills 64 p table budget (sym (Eras.number-is 64 p table budget) ∙ nought)) (refl, refl, refl, refl)
+
+  -- The sums of any list of calls, each getting the plan as the last one left it, add up to the sum of one call over all their points.
+  pub eras-shared : (calls : List Call) → fillEras 64 p table budget .answer .points ≡ pointsOf 64 p calls
+      → sumOf 64 p calls ≡ fillEras 64 p table budget .answer .sum
+  eras-shared calls = Eras.shared-sums 64 p calls table budget (sym (Eras.number-is 64 p table budget) ∙ nought)
+
+module _ {s : List ℕ} {start step : ℕ} {lent : List ℕ} {r : CompileAnswer} {q : List ℕ} (call : Compiling 64 s start step lent r q)
+    (nought : r .number ≡ 0) {t : Tree} (means : Formula s t) (earlier : List Call) (table : List ℕ) (budget : ℕ) where
+  -- "Demand 3 reads as before, except that a call refused with 16 writes no point": on a compiled plan the call is refused 16 or not at all, a word that it
+  -- writes is the formula's direct value, and refused it writes none.
+  pub eras-compiled :
+      (fillEras 64 (planLeft 64 q earlier) table budget .answer .number ≡ 0) ⊎ (fillEras 64 (planLeft 64 q earlier) table budget .answer .number ≡ 16)
+  eras-compiled =
+      Eras.sound-number 64 (planLeft 64 q earlier) table budget
+      (sym (Bridges.fill-number (planLeft 64 q earlier) table budget) ∙ compiled-never-refused call nought means earlier table budget)
+
+  pub eras-word : (j : ℕ) → j < fillEras 64 (planLeft 64 q earlier) table budget .answer .points
+      → getD (fillEras 64 (planLeft 64 q earlier) table budget .table) j 0 ≡ directValue 64 start step t (pointsOf 64 q earlier + j)
+  eras-word j = go eras-compiled
+    where
+      go : (fillEras 64 (planLeft 64 q earlier) table budget .answer .number ≡ 0) ⊎ (fillEras 64 (planLeft 64 q earlier) table budget .answer .number ≡ 16)
+          → j < fillEras 64 (planLeft 64 q earlier) table budget .answer .points
+          → getD (fillEras 64 (planLeft 64 q earlier) table budget .table) j 0 ≡ directValue 64 start step t (pointsOf 64 q earlier + j)
+      go (inl good) h =
+          let (points, _, same, _) = eras-as-fill (planLeft 64 q earlier) table budget good in
+          ap (λ l. getD l j 0) same ∙ filled-word call nought means earlier table budget j (omega (arith, points))
+      go (inr over) h =
+          let (_, _, none, _, _) = refused-eras-keeps (planLeft 64 q earlier) table budget (λ z. omega (arith, z, over)) in
+          omega (arith, none)
+
 -- ======== "any two conforming answers are proved equal", with all that the call leaves in what it was lent
 pub compile-unique : {s : List ℕ} {start step : ℕ} {lent : List ℕ} {r r′ : CompileAnswer} {q q′ : List ℕ}
     → Compiling 64 s start step lent r q → Compiling 64 s start step lent r′ q′ → (r ≡ r′) × (q ≡ q′)
@@ -389,6 +501,12 @@ pub fill-unique : (p table : List ℕ) (budget : ℕ) (r r′ : FillAnswer) (t t
     → r′ ≡ fill 64 p table budget .answer → t′ ≡ fill 64 p table budget .table → q′ ≡ fill 64 p table budget .plan
     → (r ≡ r′) × (t ≡ t′) × (q ≡ q′)
 fill-unique = Sharing.fill-unique
+
+pub fill-eras-unique : (p table : List ℕ) (budget : ℕ) (r r′ : FillErasAnswer) (t t′ q q′ : List ℕ)
+    → r ≡ fillEras 64 p table budget .answer → t ≡ fillEras 64 p table budget .table → q ≡ fillEras 64 p table budget .plan
+    → r′ ≡ fillEras 64 p table budget .answer → t′ ≡ fillEras 64 p table budget .table → q′ ≡ fillEras 64 p table budget .plan
+    → (r ≡ r′) × (t ≡ t′) × (q ≡ q′)
+fill-eras-unique = Eras.fill-eras-unique
 
 pub cost-unique : (p : List ℕ) (r r′ : CostAnswer) → r ≡ costAnswer p → r′ ≡ costAnswer p → r ≡ r′
 cost-unique = Sharing.cost-unique
@@ -414,8 +532,7 @@ pub product-unique : (f : List ℕ) (k : ℕ) (g : List ℕ) (l : ℕ) (r r′ :
     → r ≡ answered (productOutcome 64 f k g l) → r′ ≡ answered (productOutcome 64 f k g l) → r ≡ r′
 product-unique = ChainPromises.product-unique
 
-pub shift-unique : (f : List ℕ) (k : ℕ) (r r′ : ChainAnswer)
-    → r ≡ answered (shiftOutcome 64 f k) → r′ ≡ answered (shiftOutcome 64 f k) → r ≡ r′
+pub shift-unique : (f : List ℕ) (k : ℕ) (r r′ : ShiftAnswer) → r ≡ shiftAnswer 64 f k → r′ ≡ shiftAnswer 64 f k → r ≡ r′
 shift-unique = ChainPromises.shift-unique
 
 pub value-unique : (f : List ℕ) (k : ℕ) (r r′ : ValueAnswer) → r ≡ valueAnswer f k → r′ ≡ valueAnswer f k → r ≡ r′
@@ -447,6 +564,9 @@ times-unique = WordPromises.times-unique
 
 pub power-unique : (b n r r′ : ℕ) → r ≡ Word.power 64 b n → r′ ≡ Word.power 64 b n → r ≡ r′
 power-unique = WordPromises.power-unique
+
+pub signed-unique : (a : ℕ) (r r′ : ℤ) → r ≡ signed 64 a → r′ ≡ signed 64 a → r ≡ r′
+signed-unique a r r′ = both-are
 
 pub clear-unique : (lent q q′ : List ℕ) → q ≡ replicate (length lent) 0 → q′ ≡ replicate (length lent) 0 → q ≡ q′
 clear-unique lent q q′ = both-are

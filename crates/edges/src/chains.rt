@@ -74,8 +74,15 @@ fn placed(s: Stack, top: ChainAnswer, taken: usize) -> Stack {
 }
 
 fn shifted(f: ChainAnswer) -> ChainAnswer {
-    let elements = f.elements;
-    chain_calls::shift(elements, f.length)
+    let given = f.elements;
+    let answer = chain_calls::shift(given, f.length);
+    let elements = answer.elements;
+    ChainAnswer {
+        number: answer.number,
+        place: answer.place,
+        length: answer.length,
+        elements,
+    }
 }
 
 fn present(f: ChainAnswer) -> chain::ValueAnswer {

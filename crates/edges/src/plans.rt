@@ -1,5 +1,6 @@
 // A plan, its soundness, cost and fillings, and formulas compiled to it. The tokens of a line are told at `step`.
 // The calls of the library that `grids` makes as well stand here once. Formulas that are only read are in `formulas`.
+use crate::eras;
 use crate::print;
 use crate::text;
 use crate::words;
@@ -63,7 +64,7 @@ fn print_rows(plan: &[u64], most: usize)
 }
 
 // The words of the table that were written and two more, at most 22; the number of rows and the first 10; and the checksums.
-fn print_lent(table: &[u64], points: usize, plan: &[u64]) {
+pub fn print_lent(table: &[u64], points: usize, plan: &[u64]) {
     print::label(print::TABLE);
     print::list(table, words::at_most(points, 20) + 2);
     print::label(print::SUM);
@@ -133,7 +134,7 @@ fn compile_on(formula: &[u8], start: u64, step: u64, held: usize, plan: &mut [u6
 // 1,3,0,0,1,6,6 is the next row: its kind, a, b and elements. The words after them stay 0, and word 0 counts the row. ~1 in it is the
 // number of the row before it. @40,7,8 puts 7 and 8 in the words from 40 on. p begins a plan with the rows 0,0,0,3 and 1,1,0,5,2.
 // #2560 lends 2,560 words; 2,561 are lent where nothing is said. t10,15 asks for soundness and cost and fills a table of 10 words on a
-// budget of 15, which is 999 where it is left out. =x^3 compiles a formula, and g5,2:x^3 does on a grid with start 5 and step 2.
+// budget of 15, which is 999 where it is left out; e10,15 fills with era count. =x^3 compiles a formula, and g5,2:x^3 does on a grid with start 5 and step 2.
 fn step(token: &[u8], lent: usize, plan: &mut [u64], table: &mut [u64]) -> usize {
     let held = words::at_most(lent, plan.len());
     match formula_digits::byte_at(token, 0) {
@@ -142,6 +143,7 @@ fn step(token: &[u8], lent: usize, plan: &mut [u64], table: &mut [u64]) -> usize
         }
         b'@' => plant(token, plan),
         b't' => fill(token, held, plan, table),
+        b'e' => eras::fill(token, held, plan, table),
         b'p' => plant(
             b"0,2,0,0,0,3,0,0,0,0,0,0,0,0,0,0,0,0,0,0,0,0,1,1,0,5,2",
             plan,

@@ -3,7 +3,7 @@
 use crate::print;
 use crate::text;
 
-fn signed(offset: i64) {
+pub fn signed(offset: i64) {
     if offset < 0 {
         print::label(print::MINUS);
         print::number((-1 - offset) as u64 + 1);

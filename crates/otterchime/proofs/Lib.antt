@@ -1,3 +1,4 @@
--- Uniqueness of the exports, and the words of signed numbers.
+-- Uniqueness of the exports, the words of signed numbers, and a word stored behind others.
 pub mod Uniqueness
 mod SignedWords
+mod Behind

@@ -11,7 +11,7 @@ use lib.Signed.{ltZ, nonNeg}
 use mir.Syntax.{w64}
 use mir.Val.{Fits, SFits, toZ, ofZ}
 use mir.ValLaws.{toZ-pos, toZ-ofZ}
-use Rattle.probe.specs.Probe.{wordOf}
+use Rattle.word.specs.Signed.{wordOf}
 
 -- A number below 0 lies a distance below -1; the word lies as far below the largest one.
 record Negative (z : ℤ) : Type 0 where

@@ -3,11 +3,12 @@ use mathlib.Core.Path.{_≡_, ap, _∙_, sym}
 use mathlib.Core.List.{List}
 use Prim.Native.Nat.{ℕ}
 use Rattle.word.proofs.Unique.{both-are}
-use Rattle.chain.specs.Answer.{answered, trimOutcome, sumOutcome, differenceOutcome, productOutcome, shiftOutcome, coefficientsOutcome, valueAnswer}
+use Rattle.chain.specs.Answer.{answered, trimOutcome, sumOutcome, differenceOutcome, productOutcome, shiftAnswer, coefficientsOutcome, valueAnswer}
 use Rattle.plan.specs.Filling.{fill, costAnswer, soundAnswer}
+use Rattle.plan.specs.Eras.{fillEras}
 use Rattle.fold.proofs.Promise.{compiling-unique}
 use Rattle.probe.specs.Probe.{probeAnswer}
-use Rattle.otterchime.specs.Answers.{CompiledInto, compileWords, fillWords, costWords, soundWords, chainWords, valueWords, probeWords}
+use Rattle.otterchime.specs.Answers.{CompiledInto, compileWords, fillWords, fillErasWords, costWords, soundWords, chainWords, shiftWords, valueWords, probeWords}
 
 pub compile-unique : {text lent plan plan′ answer answer′ : List ℕ} {start step : ℕ}
     → CompiledInto text start step lent plan answer → CompiledInto text start step lent plan′ answer′ → (answer ≡ answer′) × (plan ≡ plan′)
@@ -22,6 +23,14 @@ pub fill-unique : (plan table : List ℕ) (budget : ℕ) {answer answer′ fille
     → (answer′ ≡ fillWords (done .answer)) × ((filled′ ≡ done .table) × (left′ ≡ done .plan))
     → (answer ≡ answer′) × ((filled ≡ filled′) × (left ≡ left′))
 fill-unique plan table budget A B = (both-are (A .0) (B .0), (both-are (A .1 .0) (B .1 .0), both-are (A .1 .1) (B .1 .1)))
+
+-- The same of filling with era count.
+pub fill-eras-unique : (plan table : List ℕ) (budget : ℕ) {answer answer′ filled filled′ left left′ : List ℕ}
+    → let done = fillEras 64 plan table budget in
+    (answer ≡ fillErasWords (done .answer)) × ((filled ≡ done .table) × (left ≡ done .plan))
+    → (answer′ ≡ fillErasWords (done .answer)) × ((filled′ ≡ done .table) × (left′ ≡ done .plan))
+    → (answer ≡ answer′) × ((filled ≡ filled′) × (left ≡ left′))
+fill-eras-unique plan table budget A B = (both-are (A .0) (B .0), (both-are (A .1 .0) (B .1 .0), both-are (A .1 .1) (B .1 .1)))
 
 -- ---- the calls that alter nothing but their answer
 module _ (answer answer′ : List ℕ) where
@@ -38,7 +47,7 @@ module _ (answer answer′ : List ℕ) where
   trim-unique f k = both-are
 
   pub shift-unique : (f : List ℕ) (k : ℕ)
-      → let words = chainWords (answered (shiftOutcome 64 f k)) in answer ≡ words → answer′ ≡ words → answer ≡ answer′
+      → let words = shiftWords (shiftAnswer 64 f k) in answer ≡ words → answer′ ≡ words → answer ≡ answer′
   shift-unique f k = both-are
 
   pub value-unique : (f : List ℕ) (k : ℕ)

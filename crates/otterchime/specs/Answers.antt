@@ -1,11 +1,13 @@
 -- The words that each call of the door leaves in its lent answer: word 0 is the refusal's number, word 1 its place, then come the call's own words.
 -- What an answer says is defined in the crates below; only its layout is defined here.
 use mathlib.Core.Path.{_≡_}
-use mathlib.Core.List.{List, [], _∷_}
+use mathlib.Core.List.{List, [], _∷_, _++_}
 use Prim.Native.Nat.{ℕ}
 use Rattle.chain.specs.declared.ChainAnswer.{ChainAnswer}
+use Rattle.chain.specs.declared.ShiftAnswer.{ShiftAnswer}
 use Rattle.chain.specs.declared.ValueAnswer.{ValueAnswer}
 use Rattle.plan.specs.declared.FillAnswer.{FillAnswer}
+use Rattle.plan.specs.declared.FillErasAnswer.{FillErasAnswer}
 use Rattle.plan.specs.declared.CostAnswer.{CostAnswer}
 use Rattle.plan.specs.declared.SoundAnswer.{SoundAnswer}
 use Rattle.fold.specs.declared.CompileAnswer.{CompileAnswer}
@@ -13,7 +15,7 @@ use Rattle.fold.specs.Compiling.{Compiling}
 use Rattle.probe.specs.declared.Verdict.{Verdict}
 use Rattle.probe.specs.declared.Verdict.the-variants.{NoVerdict, Within, Ahead, Behind}
 use Rattle.probe.specs.declared.ProbeAnswer.{ProbeAnswer}
-use Rattle.probe.specs.Probe.{wordOf}
+use Rattle.word.specs.Signed.{wordOf}
 
 -- Number and place.
 abbrev pub compileWords : CompileAnswer → List ℕ
@@ -30,12 +32,23 @@ costWords r = r .number ∷ r .place ∷ r .cost ∷ []
 abbrev pub fillWords : FillAnswer → List ℕ
 fillWords r = r .number ∷ r .place ∷ r .points ∷ r .spent ∷ []
 
+-- The same, and the word that reads as the sum of the crossings.
+abbrev pub fillErasWords : FillErasAnswer → List ℕ
+fillErasWords r = r .number ∷ r .place ∷ r .points ∷ r .spent ∷ wordOf 64 (r .sum) ∷ []
+
 -- Number, place, the chain's length, its 17 elements: 20 words.
 abbrev pub chainAnswerLength : ℕ
 chainAnswerLength = 20
 
 abbrev pub chainWords : ChainAnswer → List ℕ
 chainWords r = r .number ∷ r .place ∷ r .length ∷ r .elements
+
+-- The same of a shift, and the word that reads as the crossing: 21 words.
+abbrev pub shiftAnswerLength : ℕ
+shiftAnswerLength = 21
+
+abbrev pub shiftWords : ShiftAnswer → List ℕ
+shiftWords r = r .number ∷ r .place ∷ r .length ∷ (r .elements ++ wordOf 64 (r .crossing) ∷ [])
 
 -- Number, place, the word at the present point.
 abbrev pub valueWords : ValueAnswer → List ℕ

@@ -1,15 +1,20 @@
 // The chain calls of the door. A chain comes as 17 words f and its length k; words past the length are not read.
 // What a call answers is decided in `chain_calls` and `chain_coefficients`; the calls on formulas, plans and readings are in the crate's root.
+use crate::signed_word;
 use chain::ChainAnswer;
+use chain::ShiftAnswer;
 ghost use mathlib.Core.Path.{_≡_};
 ghost use lib.ListN.{length};
-ghost use Rattle.chain.specs.Answer.{answered, trimOutcome, sumOutcome, differenceOutcome, productOutcome, shiftOutcome, coefficientsOutcome, valueAnswer};
-ghost use Rattle.otterchime.specs.Answers.{chainAnswerLength, chainWords, valueWords};
+ghost use Rattle.chain.specs.Answer.{answered, trimOutcome, sumOutcome, differenceOutcome, productOutcome, shiftAnswer, coefficientsOutcome, valueAnswer};
+ghost use Rattle.otterchime.specs.Answers.{chainAnswerLength, chainWords, shiftAnswerLength, shiftWords, valueWords};
 
 // The words of an answer that is a chain, and where its elements begin.
 const CHAIN_ANSWER: usize = 20;
 
 const ANSWER_ELEMENTS: usize = 3;
+
+// The words of a shift's answer: the chain, and behind it the crossing.
+const SHIFT_ANSWER: usize = 21;
 
 // An answer that is a chain: number, place, length, and the elements.
 fn put(r: ChainAnswer, answer: &mut [u64])
@@ -23,6 +28,23 @@ fn put(r: ChainAnswer, answer: &mut [u64])
     chain_arrays::lay(elements, &mut answer[ANSWER_ELEMENTS..CHAIN_ANSWER]);
 }
 
+// The same of a shift, and behind it the word that reads as the crossing.
+fn put_shift(r: ShiftAnswer, answer: &mut [u64])
+    requires { ⌜ length (now answer) ≡ shiftAnswerLength ⌝ }
+    ensures { λ _. ⌜ now (answer .exit) ≡ shiftWords r ⌝ }
+{
+    let elements = r.elements;
+    let crossing = r.crossing;
+    let shifted = ChainAnswer {
+        number: r.number,
+        place: r.place,
+        length: r.length,
+        elements,
+    };
+    answer[CHAIN_ANSWER] = signed_word(crossing);
+    put(shifted, &mut answer[0..CHAIN_ANSWER]);
+}
+
 // The chain without its trailing zeros.
 #[no_mangle]
 pub extern "C" fn otterchime_trim(f: &[u64; 17], k: u64, answer: &mut [u64; CHAIN_ANSWER])
@@ -32,13 +54,13 @@ pub extern "C" fn otterchime_trim(f: &[u64; 17], k: u64, answer: &mut [u64; CHAI
     put(r, answer);
 }
 
-// The chain after one shift.
+// The chain after one shift, and how its first element crossed.
 #[no_mangle]
-pub extern "C" fn otterchime_shift(f: &[u64; 17], k: u64, answer: &mut [u64; CHAIN_ANSWER])
-    ensures { λ _. ⌜ now (answer .exit) ≡ chainWords (answered (shiftOutcome 64 (now (f .entry)) k)) ⌝ }
+pub extern "C" fn otterchime_shift(f: &[u64; 17], k: u64, answer: &mut [u64; SHIFT_ANSWER])
+    ensures { λ _. ⌜ now (answer .exit) ≡ shiftWords (shiftAnswer 64 (now (f .entry)) k) ⌝ }
 {
     let r = chain_calls::shift(*f, k as usize);
-    put(r, answer);
+    put_shift(r, answer);
 }
 
 // The chain's word at the present point.

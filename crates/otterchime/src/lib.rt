@@ -6,8 +6,10 @@ mod chains;
 use probe::Verdict;
 ghost use mathlib.Core.Path.{_≡_};
 ghost use Rattle.plan.specs.Filling.{fill, costAnswer, soundAnswer};
-ghost use Rattle.probe.specs.Probe.{wordOf, probeAnswer};
-ghost use Rattle.otterchime.specs.Answers.{CompiledInto, fillWords, costWords, soundWords, probeWords, verdictNumber};
+ghost use Rattle.plan.specs.Eras.{fillEras};
+ghost use Rattle.word.specs.Signed.{wordOf};
+ghost use Rattle.probe.specs.Probe.{probeAnswer};
+ghost use Rattle.otterchime.specs.Answers.{CompiledInto, fillWords, fillErasWords, costWords, soundWords, probeWords, verdictNumber};
 
 // Compiles a formula's text on a grid into a lent plan of 2,561 words. A refusal alters no word of the plan; words past its own stay.
 #[no_mangle]
@@ -40,6 +42,29 @@ pub extern "C" fn otterchime_fill(
     *answer = [r.number, r.place, r.points as u64, r.spent];
 }
 
+// The same with the crossings of the root over the points written, added up. Refused 16 where the root is neither a constant nor a sum chain.
+#[no_mangle]
+pub extern "C" fn otterchime_fill_eras(
+    plan: &mut [u64],
+    table: &mut [u64],
+    budget: u64,
+    answer: &mut [u64; 5],
+)
+    ensures { λ _. ⌜ now (answer .exit) ≡ fillErasWords (fillEras 64 (now (plan .entry)) (now (table .entry)) budget .answer) ⌝ }
+    ensures { λ _. ⌜ now (table .exit) ≡ fillEras 64 (now (plan .entry)) (now (table .entry)) budget .table ⌝ }
+    ensures { λ _. ⌜ now (plan .exit) ≡ fillEras 64 (now (plan .entry)) (now (table .entry)) budget .plan ⌝ }
+{
+    let r = plan_fill::eras::fill_eras(plan, table, budget);
+    let sum = r.sum;
+    *answer = [
+        r.number,
+        r.place,
+        r.points as u64,
+        r.spent,
+        signed_word(sum),
+    ];
+}
+
 // What a plan costs.
 #[no_mangle]
 pub extern "C" fn otterchime_cost(plan: &[u64], answer: &mut [u64; 3])
@@ -58,14 +83,14 @@ pub extern "C" fn otterchime_sound(plan: &[u64], answer: &mut [u64; 2])
     *answer = [r.number, r.place];
 }
 
-// The word that reads as the offset, with no step that overflows.
-fn offset_word(offset: i64) -> u64
-    ensures { λ r. ⌜ r ≡ wordOf 64 offset ⌝ }
+// The word that reads as a signed number, with no step that overflows.
+fn signed_word(number: i64) -> u64
+    ensures { λ r. ⌜ r ≡ wordOf 64 number ⌝ }
 {
-    if offset < 0 {
-        return u64::MAX - ((-1 - offset) as u64);
+    if number < 0 {
+        return u64::MAX - ((-1 - number) as u64);
     }
-    offset as u64
+    number as u64
 }
 
 fn verdict_number(verdict: Verdict) -> u64
@@ -95,7 +120,7 @@ pub extern "C" fn otterchime_probe(
     *answer = [
         r.number,
         r.place,
-        offset_word(offset),
+        signed_word(offset),
         verdict_number(verdict),
     ];
 }

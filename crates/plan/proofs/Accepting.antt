@@ -66,6 +66,10 @@ pub spent-fits : (budget cost n room : ℕ) → n ≡ min room (budget / (cost +
 spent-fits budget cost n room e =
     le-trans (mul-le-mul-right (cost + 1) (omega (arith, e, min-le-right room (budget / (cost + 1))))) (div-mul-le-self budget (cost + 1))
 
+-- As many words are lent for the points as there are points.
+pub points-whole : (table : List ℕ) (n room : ℕ) → n ≡ min (length table) room → length (part 0 n table) ≡ n
+points-whole table n room counts = length-take-le (n - 0) table (omega (arith, counts, min-le-left (length table) room)) ∙ sub-zero n
+
 -- What the code of an accepted one answers and leaves: n points for the first n words of the table.
 pub fill-done : (p table : List ℕ) (budget : ℕ) {c n : ℕ} {written left : List ℕ} → refusal p ≡ 0 → c ≡ cost p
     → n ≡ min (length table) (budget / (c + 1))
@@ -85,4 +89,4 @@ fill-done p table budget {c} {n} {written} {left} e costs counts writes leaves =
     points = counts ∙ ap (λ k. min (length table) (budget / (k + 1))) costs
 
     whole : length (part 0 n table) ≡ n
-    whole = length-take-le (n - 0) table (omega (arith, counts, min-le-left (length table) (budget / (c + 1)))) ∙ sub-zero n
+    whole = points-whole table n (budget / (c + 1)) counts

@@ -20,6 +20,7 @@ use Rattle.plan.specs.Plan.{rowCount, row, rowsFrom, rows, soundFrom, so
 use Rattle.plan.specs.Points.{withChain, chainOf, shiftedRow, shiftedFrom, shiftedPlan}
 use Rattle.plan.specs.Filling.{planAfter}
 use Rattle.plan.proofs.RowLaws.{part, partPut, slice-part, part-put, row-part, row-at}
+use Rattle.plan.proofs.SoundLaws.{earlier-row}
 
 -- ---- two lists as long as the parts of a third: put together they are cut at the same place
 pub take-front : (n : ℕ) (l e g : List ℕ) → length e ≡ length (take n l) → length g ≡ length (drop n l) → take n (e ++ g) ≡ e
@@ -191,6 +192,13 @@ pub past-shifted : (w : ℕ) (row : Row)
 past-shifted w row =
     by-kind (λ x. drop (elementsUsed (kind row) (wordA row)) (elements x) ≡ drop (elementsUsed (kind row) (wordA row)) (elements row)) w row
     (λ e. rw (e, add-comm (wordA row) 1) (past _+_ w row)) (λ e. rw (e, add-comm (wordA row) 1) (past _*_ w row)) refl
+
+-- The chain of a sum chain's row, shifted.
+pub chain-shifted : (w : ℕ) (row : Row) → kind row ≡ 1 → chainOf (shiftedRow w row) ≡ words w (sumShift (chainOf row))
+unfolding chain new
+chain-shifted w row e =
+    ap₂ (λ n f. take (1 + n) f) (a-shifted w row) (ap (λ x. elements x) (shifted-sum w row e) ∙ later _+_ w row)
+    ∙ take-front (1 + wordA row) (elements row) (chain _+_ w row) (drop (1 + wordA row) (elements row)) (length-chain _+_ w row) refl
 
 -- ---- the rows of a plan
 pub length-from : (w n : ℕ) (f : List ℕ) → length (shiftedFrom w n f) ≡ length f
@@ -408,6 +416,15 @@ plan-rows w p = ap (λ q. drop 1 q) (sym (all-shifted w p)) ∙ rows-to w (rowCo
 pub rows-plan : (w : ℕ) (p : List ℕ) → rows (shiftedPlan w p) ≡ map (shiftedRow w) (rows p)
 rows-plan w p = ap₂ (λ n f. rowsFrom n f) (count-shifted w p) (plan-rows w p) ∙ rows-shifted w (rowCount p) (drop 1 p)
 
+-- Row r of a plan shifted is row r shifted.
+pub row-shifted : (w : ℕ) (p : List ℕ) (r : ℕ) → r < rowCount p → row (shiftedPlan w p) r ≡ shiftedRow w (row p r)
+row-shifted w p r h =
+    sym (earlier-row (shiftedPlan w p) (rowCount (shiftedPlan w p)) r (rw (count-shifted w p) h))
+    ∙ ap (λ f. getD f r []) (rows-plan w p)
+    ∙ ap (λ x. getD (map (shiftedRow w) (rows p)) r x) (sym (nothing w))
+    ∙ List·getD-map (shiftedRow w) (rows p) r []
+    ∙ ap (shiftedRow w) (earlier-row p (rowCount p) r h)
+
 pub past-plan : (w : ℕ) (p : List ℕ) → drop (rowStart (rowCount p)) (shiftedPlan w p) ≡ drop (rowStart (rowCount p)) p
 past-plan w p =
     sym (drop-drop (rowLength * rowCount p) 1 (shiftedPlan w p))
@@ -455,3 +472,9 @@ cost-after w (suc n) p = cost-after w n (shiftedPlan w p) ∙ cost-shifted w p
 
 pub refusal-after : (w n : ℕ) (p : List ℕ) → refusal (planAfter w n p) ≡ refusal p
 refusal-after w n p = refusal-like (planAfter w n p) p (length-after w n p) (sound-after w n p)
+
+-- A plan that is long enough and sound stays so.
+pub good-after : (w n : ℕ) (p : List ℕ) {q : List ℕ} → q ≡ planAfter w n p → planLength ≤ length p → sound p ≡ true
+    → (planLength ≤ length q) × (sound q ≡ true)
+good-after w n p e long good =
+    (omega (arith, ap length e, length-after w n p, long), ap sound e ∙ sound-after w n p ∙ good)

@@ -5,3 +5,5 @@ pub mod Keeping
 pub mod Later
 pub mod Accepting
 pub mod Sharing
+pub mod RootChains
+pub mod EraLaws

@@ -55,8 +55,11 @@ b-small r k b few e =
     (λ other e.
     one-of (eqb (operandCount k) 2) (ltb b r) (eqb b 0) e (λ operator e. omega (arith, ltb-true b r e)) (λ none e. omega (arith, eqb-true b 0 e)))
 
+chain-lengths : (r k a : ℕ) → isChain k ≡ true → soundA r k a ≡ true → (1 ≤ a) × (a ≤ 16)
+chain-lengths r k a chain e = within 1 16 a (sym (ap (λ b. cond b (between 1 16 a) (cond (ltb 0 (operandCount k)) (ltb a r) (eqb a 0))) chain) ∙ e)
+
 pub chain-length : (r k a : ℕ) → isChain k ≡ true → soundA r k a ≡ true → a ≤ 16
-chain-length r k a chain e = within 1 16 a (sym (ap (λ b. cond b (between 1 16 a) (cond (ltb 0 (operandCount k)) (ltb a r) (eqb a 0))) chain) ∙ e) .1
+chain-length r k a chain e = chain-lengths r k a chain e .1
 
 pub used-most : (r k a : ℕ) → soundA r k a ≡ true → elementsUsed k a ≤ 17
 used-most r k a e = used (eqb k 0) (isChain k) refl
@@ -81,6 +84,9 @@ module _ (r : ℕ) (row : Row) (kept : keepsTable r row ≡ true) where
 
   pub kept-length : isChain (kind row) ≡ true → wordA row ≤ 16
   kept-length chain = chain-length r (kind row) (wordA row) chain kept-a
+
+  pub kept-some : isChain (kind row) ≡ true → 1 ≤ wordA row
+  kept-some chain = chain-lengths r (kind row) (wordA row) chain kept-a .0
 
   pub kept-exponent : kind row ≡ 7 → 2 ≤ wordB row
   kept-exponent e =

@@ -38,3 +38,12 @@ pub struct FillAnswer {
     pub points: usize,
     pub spent: u64,
 }
+
+// The same of filling with era count, and the crossings of the root over the points written, added up.
+pub struct FillErasAnswer {
+    pub number: u64,
+    pub place: u64,
+    pub points: usize,
+    pub spent: u64,
+    pub sum: i64,
+}

@@ -1,6 +1,7 @@
 // Plans for callers: what a plan costs, and filling a table by it. Any words may be lent.
 // Whether a plan is sound is checked in `plan_sound`, cost is in `costs`, the work of a point in `plan_fill::points`; formulas live above.
 mod costs;
+pub mod eras;
 mod points;
 
 use plan::CostAnswer;

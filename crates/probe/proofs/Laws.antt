@@ -2,22 +2,22 @@
 -- `_<ℤ_` and `_≤ℤ_` are the library's orders on signed numbers.
 use mathlib.Core.Path.{_≡_, refl}
 use mathlib.Core.Bool.{Bool, true, false, cond}
-use Prim.Native.Nat.{ℕ, zero, suc, _+_, _-_, _%_, _^_, _≤_, _<_}
+use Prim.Native.Nat.{ℕ, zero, suc, _+_, _-_, _%_, _^_, _<_}
 use native.Mathlib.Nat.{not-suc-le-zero}
 use native.Mathlib.Omega.{arith}
 use borrow.Author.Tests.{lt-ltb}
-use lib.Dec.{T, ltb, le→leb, ltb→lt}
+use lib.Dec.{ltb, ltb→lt}
 use lib.IntN.{ℤ, pos, negsuc, negℤ}
-use lib.Pow.{pow-pos}
-use lib.Signed.{ltZ, leZ, _<ℤ_, _≤ℤ_, clashℤ, ltZ-yes}
+use lib.Signed.{ltZ, _<ℤ_, _≤ℤ_, clashℤ, ltZ-yes}
 use Rattle.word.specs.Word.{word, sum, difference}
 use Rattle.word.proofs.Ring.{word-fits, difference-sum}
+use Rattle.word.specs.Signed.{half, wordOf}
+use Rattle.word.proofs.SignedWords.{signed-range, signed-word}
+use Rattle.word.proofs.WholeNumbers.{passed, failed}
 use Rattle.word.proofs.Unique.{both-are}
 use Rattle.probe.specs.declared.Verdict.the-variants.{NoVerdict, Within, Ahead, Behind}
 use Rattle.probe.specs.declared.ProbeAnswer.{ProbeAnswer}
-pub use Rattle.probe.specs.Probe.{wordOf}
-use Rattle.probe.specs.Probe.{half, signed, offset, verdict, accepted, refused, probeAnswer, ahead, behind, within, verdictWord, judgement}
-use Rattle.probe.proofs.Signs.{two-halves, by-halves}
+use Rattle.probe.specs.Probe.{offset, verdict, accepted, refused, probeAnswer, ahead, behind, within, verdictWord, judgement}
 
 -- Any two answers that meet the contract are equal.
 pub probe-unique : (reading expected tolerance : ℕ) (r s : ProbeAnswer)
@@ -28,27 +28,11 @@ probe-unique reading expected tolerance r s = both-are
 difference-fits : (w reading expected : ℕ) → difference w reading expected < 2 ^ w
 difference-fits w reading expected = word-fits w (reading + (2 ^ w - expected % 2 ^ w))
 
-pub signed-range : (w d : ℕ) → 0 < w → d < 2 ^ w → (negℤ (pos (half w)) ≤ℤ signed w d) × (signed w d ≤ℤ pos (half w - 1))
-signed-range w d some fits = by-halves w d (λ z. (negℤ (pos (half w)) ≤ℤ z) × (z ≤ℤ pos (half w - 1))) fits
-    (λ low. (record { le = under (half w) }, record { le = le→leb d (half w - 1) (omega arith) }))
-    (λ high. (record { le = over (half w) (pow-pos (w - 1)) (two-halves w some) high }, record { le = tt }))
-  where
-    under : (n : ℕ) → T (leZ (negℤ (pos n)) (pos d))
-    under zero = le→leb 0 d (omega arith)
-    under (suc n) = tt
-
-    over : (n : ℕ) → 0 < n → 2 ^ w ≡ n + n → n ≤ d → T (leZ (negℤ (pos n)) (negsuc (2 ^ w - suc d)))
-    over zero positive twice high = absurd (not-suc-le-zero positive)
-    over (suc n) positive twice high = le→leb (2 ^ w - suc d) n (omega arith)
-
 -- "a signed number from -2^63 to 2^63 - 1".
 pub offset-range : (w reading expected : ℕ) → 0 < w
     → (negℤ (pos (half w)) ≤ℤ offset w reading expected) × (offset w reading expected ≤ℤ pos (half w - 1))
 offset-range w reading expected some =
     signed-range w (difference w reading expected) some (difference-fits w reading expected)
-
-pub signed-word : (w d : ℕ) → d < 2 ^ w → wordOf w (signed w d) ≡ d
-signed-word w d fits = by-halves w d (λ z. wordOf w z ≡ d) fits (λ low. refl) (λ high. omega arith)
 
 -- "offset = reading - expected modulo 2^64": the offset's word added to what was expected is the reading.
 pub offset-word : (w reading expected : ℕ) → sum w (wordOf w (offset w reading expected)) expected ≡ word w reading
@@ -57,14 +41,6 @@ offset-word w reading expected =
     (difference-sum w reading expected)
 
 -- ---- the verdict
-passed : (b : Bool) → T b → b ≡ true
-passed true t = refl
-passed false t = absurd t
-
-failed : (b : Bool) → (T b → ⊥) → b ≡ false
-failed true f = absurd (f tt)
-failed false f = refl
-
 -- The enum's case and the word of 01 agree.
 pub verdict-word : (z : ℤ) (t : ℕ) → verdictWord (verdict z t) ≡ judgement z t
 verdict-word z t = called (ltZ (pos t) z) (ltZ z (negℤ (pos t)))

@@ -1,3 +1,3 @@
--- Laws of the probe, and the laws of signed words that they and the proofs of the code rest on.
+-- Laws of the probe, and what the proofs of the code say of its tests.
 pub mod Signs
 pub mod Laws

@@ -2,27 +2,15 @@
 -- Signed numbers are the library's ℤ, and `ltZ a b` is its test of a < b. Laws about these definitions are in proofs/Laws.antt.
 use mathlib.Core.Bool.{cond}
 use mathlib.Core.List.{List, [], _∷_}
-use Prim.Native.Nat.{ℕ, suc, _-_, _^_}
+use Prim.Native.Nat.{ℕ}
 use lib.Dec.{ltb}
-use lib.IntN.{ℤ, pos, negsuc, negℤ, _-ℤ_}
+use lib.IntN.{ℤ, pos, negℤ}
 use lib.Signed.{ltZ}
 use Rattle.word.specs.Word.{difference}
+use Rattle.word.specs.Signed.{half, signed}
 use Rattle.probe.specs.declared.Verdict.{Verdict}
 use Rattle.probe.specs.declared.Verdict.the-variants.{NoVerdict, Within, Ahead, Behind}
 use Rattle.probe.specs.declared.ProbeAnswer.{ProbeAnswer}
-
--- Half the number of words: 2^63 of 2^64.
-abbrev pub half : ℕ → ℕ
-half w = 2 ^ (w - 1)
-
--- "read as a signed number from -2^63 to 2^63 - 1": a word d below 2^63 is d, and any other is d - 2^64.
-abbrev pub signed : ℕ → ℕ → ℤ
-signed w d = cond (ltb d (half w)) (pos d) (pos d -ℤ pos (2 ^ w))
-
--- The word that reads as a signed number (two's complement): n, and 2^w - (n + 1) for -(n + 1).
-abbrev pub wordOf : ℕ → ℤ → ℕ
-wordOf w (pos n) = n
-wordOf w (negsuc n) = 2 ^ w - suc n
 
 -- "offset = reading - expected modulo 2^64, read as a signed number".
 abbrev pub offset : ℕ → ℕ → ℕ → ℤ

@@ -2,9 +2,9 @@
 // The offset is signed and never negated, since -2^63 has no positive twin.
 ghost use mathlib.Core.Path.{_≡_};
 ghost use Prim.Native.Nat.{_^_, _<_};
-ghost use Rattle.probe.specs.Probe.{signed, offset, verdict, verdictWord, probeAnswer, probeWord};
+ghost use Rattle.probe.specs.Probe.{offset, verdict, verdictWord, probeAnswer, probeWord};
 
-// 2^63: the least word that reads as a negative number, and the least tolerance that is refused.
+// 2^63: the least tolerance that is refused.
 const HALF: u64 = 9223372036854775808;
 
 // What the probe says of a reading. A refused probe says nothing.
@@ -23,21 +23,11 @@ pub struct ProbeAnswer {
     pub verdict: Verdict,
 }
 
-// A word read as a signed number. From 2^63 on it is -1 less the distance to the largest word, so that nothing overflows.
-fn read_signed(word: u64) -> i64
-    ensures { λ r. ⌜ r ≡ signed 64 word ⌝ }
-{
-    if word < HALF {
-        return word as i64;
-    }
-    -1 - ((u64::MAX - word) as i64)
-}
-
 // reading - expected modulo 2^64, as a signed number.
 fn signed_offset(reading: u64, expected: u64) -> i64
     ensures { λ r. ⌜ r ≡ offset 64 reading expected ⌝ }
 {
-    read_signed(std::num::wrapping_sub_u64(reading, expected))
+    word::signed(std::num::wrapping_sub_u64(reading, expected))
 }
 
 // The offset is held against plus and minus the tolerance: the tolerance is negated, and the offset is not.

@@ -4,4 +4,6 @@ pub mod Ring
 pub mod OddBase
 pub mod HalfWords
 pub mod Squaring
+pub mod SignedWords
+pub mod WholeNumbers
 pub mod Unique

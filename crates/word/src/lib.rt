@@ -1,11 +1,15 @@
-// Words modulo 2^64: the product and the power that the language's own operators leave undefined, and lent words set to 0.
+// Words modulo 2^64: the product and the power that the language's own operators leave undefined, a word read as a signed number, and lent words set to 0.
 // Sums and differences are the supplied `std::num` ones; chains and formulas live above.
 ghost use mathlib.Core.Path.{_≡_};
 ghost use lib.ListN.{length, replicate};
 ghost use Rattle.word.specs.Word.{product, power};
+ghost use Rattle.word.specs.Signed.{signed};
 
 // One more than the largest half word, 2^32.
 const HALF: u64 = 4294967296;
+
+// 2^63: the least word that reads as a negative number.
+const NEGATIVE: u64 = 9223372036854775808;
 
 // a * b modulo 2^64, from half words: the high halves' product falls out of the word.
 // No partial product wraps; the compiler makes one multiply of it.
@@ -35,6 +39,16 @@ pub fn power(b: u64, n: u64) -> u64
         left = left / 2;
     }
     result
+}
+
+// A word read as a signed number. From 2^63 on it is -1 less the distance to the largest word, so that nothing overflows.
+pub fn signed(word: u64) -> i64
+    ensures { λ r. ⌜ r ≡ signed 64 word ⌝ }
+{
+    if word < NEGATIVE {
+        return word as i64;
+    }
+    -1 - ((u64::MAX - word) as i64)
 }
 
 // 0 in every word that is lent.

@@ -1,6 +1,6 @@
 //! The chain calls against their meaning: the values at the indices 0 to 16, turned back into a chain by differences.
 use crate::{on_many, word};
-use otterchime::{difference, from_coefficients, product, shift, sum, trim, value, Chain, Refusal};
+use otterchime::{difference, from_coefficients, product, shift, sum, trim, value, Chain, Refusal, Shifted};
 use printer::folding::{chain_of, value_at};
 use printer::formula::power;
 use printer::random::Random;
@@ -40,11 +40,17 @@ fn chain(values: impl Fn(usize) -> u64) -> Chain {
     Chain { length: elements.len() - 1, words }
 }
 
+/// How the first element crosses in a shift: how often 2^64 goes into f0 + d as a whole number, rounded down.
+fn crossing(f: &[u64]) -> i64 {
+    let step = f.get(1).map_or(0, |word| i128::from(*word as i64));
+    (i128::from(f[0]) + step).div_euclid(1 << 64) as i64
+}
+
 fn one_chain(f: &Given) {
     let Given { words, k } = f;
     let elements = f.elements();
     assert_eq!(trim(words, *k), elements.map(|f| chain(|i| value_at(f, i))));
-    assert_eq!(shift(words, *k), elements.map(|f| chain(|i| value_at(f, i + 1))));
+    assert_eq!(shift(words, *k), elements.map(|f| Shifted { chain: chain(|i| value_at(f, i + 1)), crossing: crossing(f) }));
     assert_eq!(value(words, *k), elements.map(|f| value_at(f, 0)));
 }
 

@@ -6,6 +6,8 @@ mod chains;
 #[cfg(otterchime_linked)]
 mod documented;
 #[cfg(otterchime_linked)]
+mod eras;
+#[cfg(otterchime_linked)]
 mod plans;
 #[cfg(otterchime_linked)]
 mod readings;

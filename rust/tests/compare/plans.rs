@@ -113,7 +113,7 @@ fn formulas() {
 }
 
 /// A plan with some words changed, mostly in its rows.
-fn damaged(random: &mut Random) -> Vec<u64> {
+pub fn damaged(random: &mut Random) -> Vec<u64> {
     let text = random.formula();
     let Grid { start, step } = Grid::random(random);
     let mut plan = Plan::compile(&text, start, step).map_or(vec![0; PLAN_WORDS], |plan| plan.words().to_vec());

@@ -55,6 +55,12 @@ pub fn cost(plan: &[u64]) -> u64 {
     (0..plan[0]).map(of_row).sum()
 }
 
+/// The root's elements as a chain, if it is a constant or a sum chain.
+pub fn root_chain(plan: &[u64]) -> Option<&[u64]> {
+    let Row { kind, a, elements, .. } = row(plan, plan[0] - 1);
+    (kind < 2).then(|| &elements[..=a as usize])
+}
+
 /// The root's value at an index so small that no binomial is over a word.
 pub fn root_at(plan: &[u64], i: usize) -> u64 {
     let mut values: Vec<u64> = vec![];

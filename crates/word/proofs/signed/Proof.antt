@@ -1,8 +1,8 @@
--- `read_signed` meets its contract: each half of the words is read as `signed` says, and the difference taken in the upper half fits.
+-- `signed` meets its contract: each half of the words is read as `signed` says, and the difference taken in the upper half fits.
 use borrow.Author.Needs.{needs}
-use Rattle.probe.proofs.Signs.{read-low, high-fits, read-high}
-use Rattle.probe.proofs.read_signed.Statement.{statement}
-use Rattle.probe.proofs.read_signed.Tie as tie
+use Rattle.word.proofs.SignedWords.{read-low, high-fits, read-high}
+use Rattle.word.proofs.signed.Statement.{statement}
+use Rattle.word.proofs.signed.Tie as tie
 
 cast-result : tie.Need-cast-result
 cast-result c = search needs
@@ -22,6 +22,6 @@ sub-result-2 c = high-fits (c .before .args .word) (c .if1 .left) (c .before .fi
 returns-2 : tie.Need-returns-2
 returns-2 c = read-high (c .before .args .word) (c .if1 .left) (c .before .fits .word .fits)
 
-pub read-signed-spec : {M : Type 1} → statement M
-read-signed-spec =
+pub signed-spec : {M : Type 1} → statement M
+signed-spec =
     tie.close (tie.spec cast-result returns sub-result cast-result-2 sub-result-2 returns-2)
