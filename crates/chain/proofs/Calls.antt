@@ -9,8 +9,8 @@ use lib.ListN.{length, getD, take, length-take, length-map}
 use Rattle.chain.specs.Chain.{value, rest, joined, words, trimmed, row}
 use Rattle.chain.specs.SumChain.{sumAt, sumShift, sum, difference, scaled, times, product}
 use Rattle.chain.specs.Answer.{given}
-use Rattle.chain.proofs.SumLaws.{value-sum, value-scaled, sum-shift, difference-as-sum}
-use Rattle.chain.proofs.Trimming.{value-trimmed-sum, trimmed-row, length-row, length-trimmed, length-trimmed-some, take-trimmed}
+use Rattle.chain.proofs.SumLaws.{value-sum, value-scaled, value-product, sum-shift, difference-as-sum}
+use Rattle.chain.proofs.Trimming.{value-trimmed-sum, trimmed-row, length-row, length-trimmed}
 use Rattle.chain.proofs.Canonical.{same-row}
 use Rattle.chain.proofs.Rows.{row-whole}
 use Rattle.chain.proofs.Shifting.{length-shift}
@@ -61,17 +61,6 @@ module _ (f : List ℕ) (k : ℕ) (long : length f ≡ 17) where
   pub kept-length : {e : List ℕ} {n : ℕ} → n ≡ length (trimmed 0 e) - 1 → e ≡ row 17 (take (k + 1) f) → n ≡ length (given f k) - 1
   kept-length p q = p ∙ ap (λ c. length (trimmed 0 c) - 1) q ∙ ap (λ c. length c - 1) kept-trimmed
 
-  -- The kept words up to the trimmed length are the trimmed chain.
-  pub kept-taken : {e : List ℕ} {n : ℕ} → n ≡ length (trimmed 0 e) - 1 → e ≡ row 17 (take (k + 1) f) → take (n + 1) e ≡ given f k
-  kept-taken {e} {n} p q =
-      ap (λ m. take m e) (whole n (length (trimmed 0 e)) p (length-trimmed-some 0 e))
-      ∙ take-trimmed 0 e (rw (q, length-row 17 (take (k + 1) f)) (omega arith))
-      ∙ ap (λ c. trimmed 0 c) q
-      ∙ kept-trimmed
-    where
-      whole : (n m : ℕ) → n ≡ m - 1 → 0 < m → n + 1 ≡ m
-      whole n m p h = omega arith
-
   pub length-given : length (given f k) ≤ 17
   length-given = length-trimmed 0 (take (k + 1) f) 16 length-kept
 
@@ -120,11 +109,14 @@ module _ (w : ℕ) (f : List ℕ) (k : ℕ) (f-long : length f ≡ 17) (g : List
       (length-given f k f-long) (length-given g l g-long)
 
   pub product-trims : (length (given f k) - 1) + (length (given g l) - 1) ≤ 16
-      → trimmed 0 (row 17 (words w (product (given f k) (given g l)))) ≡ trimmed 0 (words w (product (given f k) (given g l)))
+      → trimmed 0 (row 17 (words w (product (row 17 (take (k + 1) f)) (row 17 (take (l + 1) g))))) ≡ trimmed 0 (words w (product (given f k) (given g l)))
   product-trims short =
-      trimmed-row 16 (words w (product (given f k) (given g l)))
-      (rw (length-map (product (given f k) (given g l)) (λ a. a % 2 ^ w))
-      (omega (arith, length-product (given f k) (given g l) (length (given f k)) (length (given g l) - 1) (omega arith) (omega arith))))
+      trimmed-as w (product (row 17 (take (k + 1) f)) (row 17 (take (l + 1) g))) (product (given f k) (given g l))
+      (omega (arith, length-product (given f k) (given g l) (length (given f k)) (length (given g l) - 1) (omega arith) (omega arith)))
+      (λ i h. ap (λ z. z % 2 ^ w)
+      (value-product (row 17 (take (k + 1) f)) (row 17 (take (l + 1) g)) i
+      ∙ ap₂ _*_ (kept-value f k f-long i) (kept-value g l g-long i)
+      ∙ sym (value-product (given f k) (given g l) i)))
 
 pub shift-trims : (w : ℕ) (f : List ℕ) (k : ℕ) → length f ≡ 17
     → trimmed 0 (words w (sumShift (row 17 (take (k + 1) f)))) ≡ trimmed 0 (words w (sumShift (given f k)))

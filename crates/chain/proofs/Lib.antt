@@ -6,7 +6,6 @@ pub mod ProductLaws
 pub mod Canonical
 pub mod Rows
 pub mod Shifting
-pub mod ProductRule
 pub mod Calls
 pub mod Tables
 pub mod CoefficientLaws

@@ -1,5 +1,5 @@
 // Chains as arrays of 17 words, and as lent slices that change in place: 0 past the elements, trimmed, and two of them word by word.
-// Lengths are checked by the callers in `chain_calls` and `chain_coefficients`; the product is in `chain_products`.
+// Lengths are checked by the callers in `chain_calls` and `chain_coefficients`; products and powers are in `chain_values`.
 use chain::ChainAnswer;
 ghost use mathlib.Core.Path.{_≡_};
 ghost use mathlib.Core.List.{[]};
@@ -8,6 +8,7 @@ ghost use lib.ListN.{length, take};
 ghost use Rattle.word.specs.Signed.{signed};
 ghost use Rattle.chain.specs.Chain.{trimmed, row};
 ghost use Rattle.chain.specs.Crossing.{crossedBy};
+ghost use Rattle.chain.specs.SumChain.{inverseShift};
 ghost use Rattle.chain.specs.Answer.{answered, refused, chain};
 ghost use Rattle.chain_arrays.specs.Operations.{worked, wordByWord, shiftedBy};
 
@@ -58,7 +59,7 @@ pub fn trimmed_length(f: [u64; 17], unit: u64) -> usize
 }
 
 // By the supplied wrapping sum and difference, and `word`'s product and power.
-fn worked(operation: Operation, a: u64, b: u64) -> u64
+pub fn worked(operation: Operation, a: u64, b: u64) -> u64
     ensures { λ r. ⌜ r ≡ worked operation a b ⌝ }
 {
     match operation {
@@ -110,6 +111,18 @@ pub fn crossed(a: u64, b: u64) -> i64
         return 0;
     }
     -1
+}
+
+// One shift of a sum chain taken back in place, from the top down: each word meets its neighbour's new value.
+pub fn unshift_part(f: &mut [u64])
+    ensures { λ _. ⌜ now (f .exit) ≡ inverseShift 64 (now (f .entry)) ⌝ }
+{
+    let mut left = f.len();
+    while 1 < left {
+        let at = left - 2;
+        f[at] = std::num::wrapping_sub_u64(f[at], f[at + 1]);
+        left -= 1;
+    }
 }
 
 // The words of an array laid into a lent part that is as long.

@@ -1,5 +1,5 @@
 // Sum chains for callers: trim, sum, difference, product, shift and value, each with its refusals.
-// A chain is an array of 17 words by value with its length. The work on arrays is in `chain_arrays` and `chain_products`; formulas and plans live above.
+// A chain is an array of 17 words by value with its length. The work on arrays is in `chain_arrays` and `chain_values`; formulas and plans live above.
 use chain::ChainAnswer;
 use chain::ShiftAnswer;
 use chain::ValueAnswer;
@@ -78,7 +78,7 @@ pub fn product(f: [u64; 17], k: usize, g: [u64; 17], l: usize) -> ChainAnswer
     if LONGEST_PRODUCT < f_trimmed + g_trimmed {
         return refusal(15);
     }
-    accepted(chain_products::product_words(f_kept, f_trimmed, g_kept, g_trimmed))
+    accepted(chain_values::product(f_kept, g_kept))
 }
 
 // The chain after one shift, and how its first element crossed. Past the length the kept words are 0, so a constant does not cross.

@@ -2,6 +2,7 @@
 // Which node is one of them is decided in `compile`; sums and products are in `fold_sums` and `fold_products`.
 use chain::ChainAnswer;
 use chain_arrays::Operation;
+use chain_arrays::accepted;
 use chain_arrays::word_by_word;
 use fold_operands::append;
 use fold_operands::first_element;
@@ -33,15 +34,8 @@ fn power_of(f: [u64; 17], k: usize, n: u64) -> ChainAnswer
     requires { ⌜ k * n ≤ 16 ⌝ }
     ensures { λ r. ⌜ r ≡ answered (chain (trimmed 0 (words 64 (power (take (k + 1) f) n)))) ⌝ }
 {
-    let mut r = chain_calls::trim(f, k);
-    let mut i = 1;
-    while i < n {
-        let elements = r.elements;
-        let next = chain_calls::product(elements, r.length, f, k);
-        r = next;
-        i += 1;
-    }
-    r
+    let kept = chain_arrays::kept(f, k);
+    accepted(chain_values::power(kept, n))
 }
 
 // Chains and operators to the n: S^n if k*n is at most 16, every element of P, or a row.

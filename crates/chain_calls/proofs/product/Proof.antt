@@ -6,7 +6,7 @@ use lib.ListN.{length}
 use borrow.Author.Tests.{lt-ltb, le-ltb}
 use borrow.Author.Needs.{needs}
 use Rattle.chain.specs.Answer.{given}
-use Rattle.chain.proofs.Calls.{kept-length, kept-taken, length-given, product-trims}
+use Rattle.chain.proofs.Calls.{kept-length, length-given, product-trims}
 use Rattle.chain_calls.proofs.product.Statement.{statement}
 use Rattle.chain_calls.proofs.product.Tie as tie
 
@@ -52,12 +52,8 @@ returns-3 c =
     let over : 16 < (length (given (args .f) (args .k)) - 1) + (length (given (args .g) (args .l)) - 1) = omega arith in
     rw (c .refusal3 .ensures, le-ltb _ _ (c .before .before .before .before .before .before .before .if1 .left), le-ltb _ _ (c .before .before .before .before .before .before .if2 .left), lt-ltb _ _ over)
 
-product-words-requires : tie.Need-product-words-requires
-product-words-requires c κs =
-    let args = c .before .before .before .before .before .before .before .args in
-    let f-length : c .before .before .trimmed-length .result ≡ length (given (args .f) (args .k)) - 1 = kept-length (args .f) (args .k) (search needs) (c .before .before .trimmed-length .ensures) (c .before .before .before .before .kept .ensures) in
-    let g-length : c .before .trimmed-length2 .result ≡ length (given (args .g) (args .l)) - 1 = kept-length (args .g) (args .l) (search needs) (c .before .trimmed-length2 .ensures) (c .before .before .before .kept2 .ensures) in
-    (omega (arith, length-given (args .f) (args .k) (search needs), length-given (args .g) (args .l) (search needs)), omega (arith, length-given (args .f) (args .k) (search needs), length-given (args .g) (args .l) (search needs)))
+product-requires : tie.Need-product-requires
+product-requires c κs = search needs
 
 accepted-requires : tie.Need-accepted-requires
 accepted-requires c κs = search needs
@@ -70,9 +66,9 @@ returns-4 c =
     let short : (length (given (args .f) (args .k)) - 1) + (length (given (args .g) (args .l)) - 1) ≤ 16 = omega arith in
     rw (
       c .accepted .ensures,
-      c .before .product-words .ensures,
-      kept-taken (args .f) (args .k) (search needs) (c .before .before .before .before .trimmed-length .ensures) (c .before .before .before .before .before .before .kept .ensures),
-      kept-taken (args .g) (args .l) (search needs) (c .before .before .before .trimmed-length2 .ensures) (c .before .before .before .before .before .kept2 .ensures),
+      c .before .product .ensures,
+      c .before .before .before .before .before .before .kept .ensures,
+      c .before .before .before .before .before .kept2 .ensures,
       le-ltb _ _ (c .before .before .before .before .before .before .before .before .if1 .left),
       le-ltb _ _ (c .before .before .before .before .before .before .before .if2 .left),
       le-ltb _ _ short,
@@ -94,6 +90,6 @@ product-spec =
     add-if3
     refusal-requires-3
     returns-3
-    product-words-requires
+    product-requires
     accepted-requires
     returns-4)

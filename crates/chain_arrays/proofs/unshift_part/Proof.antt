@@ -6,8 +6,8 @@ use lib.ListN.{length, getD, length-set}
 use borrow.Author.Needs.{needs}
 use Rattle.word.proofs.Ring.{difference-found}
 use Rattle.chain.proofs.Shifting.{unturned, unturned-none, unturned-all, unshift-turn}
-use Rattle.chain_products.proofs.unshift_part.Statement.{statement}
-use Rattle.chain_products.proofs.unshift_part.Tie as tie
+use Rattle.chain_arrays.proofs.unshift_part.Statement.{statement}
+use Rattle.chain_arrays.proofs.unshift_part.Tie as tie
 
 abbrev Inv-loop : tie.InvT-loop
 Inv-loop f₀ left₀ f left = (left ≤ length f₀) × (length f ≡ length f₀) × (f ≡ unturned 64 (left - 1) f₀)
