@@ -51,7 +51,7 @@ fn address<T: ?Sized>(place: &mut T) -> u64 {
 /// Trim, shift and value: every length. Sum, difference and product: every two lengths. Refused lengths too.
 fn chains(stack: &mut Stack, function: *const (), two: bool) -> usize {
     let mut deepest = 0;
-    let mut answer = [0u64; 3 + CHAIN_WORDS];
+    let mut answer = [0u64; 4 + CHAIN_WORDS];
     for k in 0..=17 {
         for l in if two { 0..=17 } else { 0..=0 } {
             let (mut f, mut g) = (chain(16, k + 1), chain(16, l + 2));
@@ -67,17 +67,17 @@ fn chains(stack: &mut Stack, function: *const (), two: bool) -> usize {
 }
 
 fn coefficients(stack: &mut Stack) -> usize {
-    let (mut words, mut answer) = ([7u64; 18], [0u64; 3 + CHAIN_WORDS]);
+    let (mut words, mut answer) = ([7u64; 18], [0u64; 4 + CHAIN_WORDS]);
     let function = raw::otterchime_from_coefficients as *const ();
     let mut depth = |count| unsafe { stack.depth(function, [address(&mut words), count, address(&mut answer), 0, 0, 0, 0]) };
     (0..=18).map(&mut depth).max().unwrap_or(0)
 }
 
-/// Compiling, cost, soundness and filling, over the same texts, and compiling without the reader's brackets.
-fn formulas(stack: &mut Stack) -> [usize; 5] {
-    let mut deepest = [0; 5];
+/// Compiling, cost, soundness and both fillings, over the same texts, and compiling without the reader's brackets.
+fn formulas(stack: &mut Stack) -> [usize; 6] {
+    let mut deepest = [0; 6];
     for mut text in texts::deep() {
-        let (mut plan, mut table, mut answer) = (vec![0u64; PLAN_WORDS], vec![0u64; 64], [0u64; 4]);
+        let (mut plan, mut table, mut answer) = (vec![0u64; PLAN_WORDS], vec![0u64; 64], [0u64; 5]);
         let (start, lent, room) = (plan.as_mut_ptr() as u64, plan.len() as u64, table.len() as u64);
         let answered = address(&mut answer);
         let compile = [text.as_mut_ptr() as u64, text.len() as u64, 3, 5, start, lent, answered];
@@ -92,6 +92,7 @@ fn formulas(stack: &mut Stack) -> [usize; 5] {
                 stack.depth(raw::otterchime_cost as *const (), read),
                 stack.depth(raw::otterchime_sound as *const (), read),
                 stack.depth(raw::otterchime_fill as *const (), fill),
+                stack.depth(raw::otterchime_fill_eras as *const (), fill),
             ]
         };
         for (deepest, depth) in deepest.iter_mut().zip(depths) {
@@ -111,7 +112,7 @@ fn probe(stack: &mut Stack) -> usize {
 pub fn print() {
     let mut stack = Stack::new();
     println!("{:<44}{:>12}", "bytes of stack, the deepest call", "library");
-    let [compile, flat, cost, sound, fill] = formulas(&mut stack);
+    let [compile, flat, cost, sound, fill, fill_eras] = formulas(&mut stack);
     let coefficients = coefficients(&mut stack);
     let probe = probe(&mut stack);
     let mut chain = |function, two| chains(&mut stack, function, two);
@@ -119,6 +120,7 @@ pub fn print() {
         ("compile", compile),
         ("compile, no bracket in the text", flat),
         ("fill", fill),
+        ("fill_eras", fill_eras),
         ("cost", cost),
         ("sound", sound),
         ("trim", chain(raw::otterchime_trim as *const (), false)),
