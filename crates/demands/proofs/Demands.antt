@@ -1,7 +1,7 @@
 -- The three demands as theorems about the contracts of the public calls alone, each under the sentence that it renders; then, for each call,
--- that any two answers which meet its contract are equal. The contracts are `Compiling` of fold; `Reading` of formula; `fill`, `costAnswer`,
--- `soundAnswer` and `refusal` of plan; `answered` of an outcome and `valueAnswer` of chain; `probeAnswer` of probe; `started`, `stepped` and
--- `finished` of table_progress; `product` and `power` of word. Words have 64 bits. Bridges.antt has the longer steps.
+-- that any two answers which meet its contract are equal. The contracts are `Compiling` of fold; `Reading` of formula; `fill`, `fillEras`, `costAnswer`,
+-- `soundAnswer` and `refusal` of plan; `answered` of an outcome, `shiftAnswer` and `valueAnswer` of chain; `probeAnswer` of probe; `started`, `stepped` and
+-- `finished` of table_progress; `product`, `power` and `signed` of word. Words have 64 bits. What document 02 asks for stands behind the demands. Bridges.antt has the longer steps.
 use mathlib.Core.Path.{_≡_, refl, sym, ap, subst, _∙_}
 use mathlib.Core.Bool.{true, false}
 use mathlib.Core.Logic.{_↔_, _⊎_, inl, inr}

@@ -1,5 +1,5 @@
 // Plans for callers: what a plan costs, and filling a table by it. Any words may be lent.
-// Whether a plan is sound is checked in `plan_sound`, cost is in `costs`, the work of a point in `plan_fill::points`; formulas live above.
+// Whether a plan is sound is checked in `plan_sound`, cost is in `costs`, the work of a point in `plan_fill::points`, filling with era count in `eras`; formulas live above.
 mod costs;
 pub mod eras;
 mod points;
