@@ -68,6 +68,7 @@ extern "C" {
 #define OTTERCHIME_WITHIN 1
 #define OTTERCHIME_AHEAD 2
 #define OTTERCHIME_BEHIND 3
+#define OTTERCHIME_UNSET 4
 
 /* ---- plans ---- */
 
@@ -135,7 +136,7 @@ void otterchime_from_coefficients(const uint64_t *coefficients, size_t count, ui
 /* ---- the probe ---- */
 
 /* Holds a reading against what was expected. The offset is reading - expected modulo 2^64, read as a signed number; above the tolerance
- * it is ahead, below its negative behind, else within.
+ * it is ahead, below its negative behind, else within. A reading of 0 is no time at all: it is unset, with offset 0.
  * answer: number, place, the offset as a word (convert it to int64_t), the verdict (OTTERCHIME_WITHIN, ..). Refusal 10, with offset 0
  * and OTTERCHIME_NO_VERDICT. */
 void otterchime_probe(uint64_t reading, uint64_t expected, uint64_t tolerance, uint64_t answer[OTTERCHIME_PROBE_ANSWER]);

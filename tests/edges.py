@@ -143,6 +143,8 @@ def sequence(name, function):
 def probe(name, reading, expected, tolerance):
     if tolerance >= HALF:
         return line(name, "10 0 0 none")
+    if reading == 0:
+        return line(name, "0 0 0 unset")
     offset = (reading - expected + HALF) % WORD - HALF
     verdict = "ahead" if offset > tolerance else "behind" if offset < -tolerance else "within"
     line(name, f"0 0 {offset} {verdict}")
@@ -1917,6 +1919,15 @@ def job_files():
     job_file("chain-jobs>1/3^(x)>0>1>4096/>>>/")
 
 
+def unset_readings():
+    """A reading of 0 against ordinary words, with tolerances on both sides of the limit; and 1 for an expected 0."""
+    for expected in (0, 1, HALF, WORD - 1):
+        for tolerance in (0, HALF - 1, HALF):
+            probe(f"probe unset for {expected}, T={tolerance}", 0, expected, tolerance)
+    for tolerance in (0, 1, HALF - 1, HALF):
+        probe(f"probe 1 for 0, T={tolerance}", 1, 0, tolerance)
+
+
 def turns():
     """Both sides of each limit, constants, untrimmed chains, and words past the length."""
     for f0, f1 in ((-1, 1), (-1, 0), (-2, 1), (-1, HALF - 1), (0, -1), (1, -1), (0, 1), (HALF - 1, HALF), (HALF, HALF),
@@ -2023,3 +2034,4 @@ if __name__ == "__main__":
     turns()
     eras()
     drill()
+    unset_readings()

@@ -6,6 +6,7 @@ pub enum Verdict {
     Within,
     Ahead,
     Behind,
+    Unset,
 }
 
 #[derive(Clone, Copy, Debug, PartialEq, Eq)]
@@ -14,7 +15,7 @@ pub struct Probed {
     pub verdict: Verdict,
 }
 
-/// The offset of a reading, and whether a tolerance below 2^63 allows it.
+/// The offset of a reading, and whether a tolerance below 2^63 allows it. A reading of 0 is no time at all: it is unset, with offset 0.
 pub fn probe(reading: u64, expected: u64, tolerance: u64) -> Result<Probed, Refusal> {
     let mut answer = [0; 4];
     // SAFETY: the answer is a live array.
@@ -28,6 +29,7 @@ fn verdict_of(number: u64) -> Verdict {
         1 => Verdict::Within,
         2 => Verdict::Ahead,
         3 => Verdict::Behind,
+        4 => Verdict::Unset,
         other => unreachable!("an accepted probe has a verdict, not {other}"),
     }
 }

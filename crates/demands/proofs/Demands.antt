@@ -63,7 +63,7 @@ use Rattle.fold.proofs.Promise.{compiling-unique}
 use Rattle.probe.specs.declared.ProbeAnswer.{ProbeAnswer}
 use Rattle.probe.specs.declared.Verdict.the-variants.{NoVerdict}
 use Rattle.probe.specs.Probe as ProbeSpec
-use Rattle.probe.specs.Probe.{offset, verdict, verdictWord, ahead, behind, within, probeAnswer}
+use Rattle.probe.specs.Probe.{offset, verdict, verdictWord, ahead, behind, within, unset, probeAnswer}
 use Rattle.probe.proofs.Laws as Probe
 use Rattle.table.specs.Parts.{lineFeed}
 use Rattle.table.specs.Run.{RunPrints}
@@ -312,11 +312,19 @@ pub coefficients-right : (a : List ℕ) → length a ≤ 17 → Answers (answere
 coefficients-right a h =
     rw (le-ltb 17 (length a) h) (answers _ (Bridges.coefficients-short a) (λ i. Bridges.coefficients-value a i h))
 
--- ---- the probe, for every reading and every tolerance that is not refused
-module _ (reading expected tolerance : ℕ) (fits : tolerance < 2 ^ 63) where
+-- ---- the probe, for every tolerance that is not refused
+-- Request Three of document 02: "Reading 0 now gets a verdict of its own, *unset*, with offset 0, for every expected word and tolerance."
+pub zero-unset : (expected tolerance : ℕ) → tolerance < 2 ^ 63
+    → let probed = probeAnswer 0 expected tolerance in
+    (probed .number ≡ 0) × (probed .place ≡ 0) × (probed .offset ≡ pos 0) × (verdictWord (probed .verdict) ≡ unset)
+zero-unset expected tolerance fits = rw (Probe.zero-is-unset expected tolerance fits) (refl, refl, refl, refl)
+
+-- Every other reading is judged by its offset. "An expected word of 0 stays ordinary": what is expected may be any word.
+module _ (reading expected tolerance : ℕ) (fits : tolerance < 2 ^ 63) (set : reading ≡ 0 → ⊥) where
   -- "Every reading is judged this way."
-  pub probe-accepts : probeAnswer reading expected tolerance ≡ ProbeSpec.accepted (offset 64 reading expected) tolerance
-  probe-accepts = rw (lt-ltb tolerance (half 64) fits)
+  pub probe-accepts : probeAnswer reading expected tolerance
+      ≡ ProbeSpec.accepted (offset 64 reading expected) (verdict (offset 64 reading expected) tolerance)
+  probe-accepts = Probe.other-is-judged reading expected tolerance fits set
 
   -- "offset = reading - expected modulo 2^64, read as a signed number from -2^63 to 2^63 - 1".
   pub offset-right :

@@ -73,6 +73,8 @@ pub const BYTES: usize = 32;
 
 pub const NOT_DONE: usize = 33;
 
+pub const UNSET: usize = 34;
+
 pub fn text(bytes: &[u8]) {
     io::write_all(STDOUT_FILENO, bytes);
 }
@@ -85,7 +87,7 @@ pub fn number(word: u64) {
 pub fn label(n: usize) {
     let texts: &[u8] =
         b"\t|\n| |,|:|-| clean| dirty|kept|changed|read | into | words|sound |cost |fill | table | sum |plan |compile |grid \
-|rows |values | differs| none| within| ahead| behind|no such section\n|the input is longer than 65535 bytes\n|jobs | of | bytes/| not done|";
+|rows |values | differs| none| within| ahead| behind|no such section\n|the input is longer than 65535 bytes\n|jobs | of | bytes/| not done| unset|";
     let mut left = n;
     let mut at = 0;
     while at < texts.len() {

@@ -18,6 +18,7 @@ fn verdict_text(verdict: probe::Verdict) -> usize {
         probe::Verdict::Within => print::WITHIN,
         probe::Verdict::Ahead => print::AHEAD,
         probe::Verdict::Behind => print::BEHIND,
+        probe::Verdict::Unset => print::UNSET,
     }
 }
 

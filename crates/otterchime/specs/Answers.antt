@@ -13,7 +13,7 @@ use Rattle.plan.specs.declared.SoundAnswer.{SoundAnswer}
 use Rattle.fold.specs.declared.CompileAnswer.{CompileAnswer}
 use Rattle.fold.specs.Compiling.{Compiling}
 use Rattle.probe.specs.declared.Verdict.{Verdict}
-use Rattle.probe.specs.declared.Verdict.the-variants.{NoVerdict, Within, Ahead, Behind}
+use Rattle.probe.specs.declared.Verdict.the-variants.{NoVerdict, Within, Ahead, Behind, Unset}
 use Rattle.probe.specs.declared.ProbeAnswer.{ProbeAnswer}
 use Rattle.word.specs.Signed.{wordOf}
 
@@ -54,12 +54,13 @@ shiftWords r = r .number ∷ r .place ∷ r .length ∷ (r .elements ++ wordOf 6
 abbrev pub valueWords : ValueAnswer → List ℕ
 valueWords r = r .number ∷ r .place ∷ r .word ∷ []
 
--- The number of each verdict: *within*, *ahead* and *behind* are 1, 2 and 3, and "no verdict" is 0.
+-- The number of each verdict: *within*, *ahead*, *behind* and *unset* are 1, 2, 3 and 4, and "no verdict" is 0.
 abbrev pub verdictNumber : Verdict → ℕ
 verdictNumber NoVerdict = 0
 verdictNumber Within = 1
 verdictNumber Ahead = 2
 verdictNumber Behind = 3
+verdictNumber Unset = 4
 
 -- Number, place, the word that reads as the offset, the verdict's number.
 abbrev pub probeWords : ProbeAnswer → List ℕ

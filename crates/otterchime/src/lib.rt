@@ -101,6 +101,7 @@ fn verdict_number(verdict: Verdict) -> u64
         Verdict::Within => 1,
         Verdict::Ahead => 2,
         Verdict::Behind => 3,
+        Verdict::Unset => 4,
     }
 }
 

@@ -5,7 +5,7 @@ use mathlib.Core.Bool.{Bool, true, false, cond}
 use Prim.Native.Nat.{ℕ, zero, suc, _+_, _-_, _%_, _^_, _<_}
 use native.Mathlib.Nat.{not-suc-le-zero}
 use native.Mathlib.Omega.{arith}
-use borrow.Author.Tests.{lt-ltb}
+use borrow.Author.Tests.{lt-ltb, ne-eqb}
 use lib.Dec.{ltb, ltb→lt}
 use lib.IntN.{ℤ, pos, negsuc, negℤ}
 use lib.Signed.{ltZ, _<ℤ_, _≤ℤ_, clashℤ, ltZ-yes}
@@ -15,9 +15,9 @@ use Rattle.word.specs.Signed.{half, wordOf}
 use Rattle.word.proofs.SignedWords.{signed-range, signed-word}
 use Rattle.word.proofs.WholeNumbers.{passed, failed}
 use Rattle.word.proofs.Unique.{both-are}
-use Rattle.probe.specs.declared.Verdict.the-variants.{NoVerdict, Within, Ahead, Behind}
+use Rattle.probe.specs.declared.Verdict.the-variants.{Behind, Unset}
 use Rattle.probe.specs.declared.ProbeAnswer.{ProbeAnswer}
-use Rattle.probe.specs.Probe.{offset, verdict, accepted, refused, probeAnswer, ahead, behind, within, verdictWord, judgement}
+use Rattle.probe.specs.Probe.{offset, verdict, accepted, refused, probeAnswer, ahead, behind, within, verdictWord}
 
 -- Any two answers that meet the contract are equal.
 pub probe-unique : (reading expected tolerance : ℕ) (r s : ProbeAnswer)
@@ -41,15 +41,6 @@ offset-word w reading expected =
     (difference-sum w reading expected)
 
 -- ---- the verdict
--- The enum's case and the word of 01 agree.
-pub verdict-word : (z : ℤ) (t : ℕ) → verdictWord (verdict z t) ≡ judgement z t
-verdict-word z t = called (ltZ (pos t) z) (ltZ z (negℤ (pos t)))
-  where
-    called : (b c : Bool) → verdictWord (cond b Ahead (cond c Behind Within)) ≡ cond b ahead (cond c behind within)
-    called true c = refl
-    called false true = refl
-    called false false = refl
-
 -- "Offset above T is *ahead*".
 pub above-is-ahead : (z : ℤ) (t : ℕ) → pos t <ℤ z → verdictWord (verdict z t) ≡ ahead
 above-is-ahead z t above = rw (passed (ltZ (pos t) z) (above .lt))
@@ -74,16 +65,11 @@ lowest-is-behind w t small = at (half w) t small
     at (suc n) zero h = refl
     at (suc n) (suc t) h = rw (lt-ltb t n (omega arith))
 
--- "Every reading is judged this way": an accepted answer has one of the three verdicts.
-pub judged : (reading expected tolerance : ℕ)
-    → probeAnswer reading expected tolerance .number ≡ 0 → probeAnswer reading expected tolerance .verdict ≡ NoVerdict → ⊥
-judged reading expected tolerance = by (ltb tolerance (half 64)) (offset 64 reading expected)
-  where
-    three : (b c : Bool) → cond b Ahead (cond c Behind Within) ≡ NoVerdict → ⊥
-    three true c e = let clash : _≡_ {A = ℕ} 0 1 = cc in omega arith
-    three false true e = let clash : _≡_ {A = ℕ} 0 1 = cc in omega arith
-    three false false e = let clash : _≡_ {A = ℕ} 0 1 = cc in omega arith
+-- "Reading 0 now gets a verdict of its own, *unset*, with offset 0", at every tolerance that is accepted.
+pub zero-is-unset : (expected tolerance : ℕ) → tolerance < half 64 → probeAnswer 0 expected tolerance ≡ accepted (pos 0) Unset
+zero-is-unset expected tolerance fits = rw (lt-ltb tolerance (half 64) fits)
 
-    by : (b : Bool) (z : ℤ) → cond b (accepted z tolerance) refused .number ≡ 0 → cond b (accepted z tolerance) refused .verdict ≡ NoVerdict → ⊥
-    by true z zero-number none = three (ltZ (pos tolerance) z) (ltZ z (negℤ (pos tolerance))) none
-    by false z zero-number none = omega arith
+-- Every other reading is judged by its offset, whatever is expected.
+pub other-is-judged : (reading expected tolerance : ℕ) → tolerance < half 64 → (reading ≡ 0 → ⊥)
+    → probeAnswer reading expected tolerance ≡ accepted (offset 64 reading expected) (verdict (offset 64 reading expected) tolerance)
+other-is-judged reading expected tolerance fits set = rw (lt-ltb tolerance (half 64) fits, ne-eqb reading 0 set)

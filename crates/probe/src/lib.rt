@@ -13,6 +13,7 @@ pub enum Verdict {
     Within,
     Ahead,
     Behind,
+    Unset,
 }
 
 // The refusal's number and place, both 0 where the call is accepted; the offset and the verdict on it.
@@ -45,7 +46,7 @@ fn judge(offset: i64, tolerance: u64) -> Verdict
     Verdict::Within
 }
 
-// Every reading is judged; a tolerance of 2^63 or more is refused.
+// A tolerance of 2^63 or more is refused; a reading of 0 is unset, and every other one is judged by its offset.
 pub fn probe(reading: u64, expected: u64, tolerance: u64) -> ProbeAnswer
     ensures answer { λ r. ⌜ r ≡ probeAnswer reading expected tolerance ⌝ }
     ensures word { λ r. ⌜ verdictWord (r .verdict) ≡ probeWord reading expected tolerance ⌝ }
@@ -56,6 +57,14 @@ pub fn probe(reading: u64, expected: u64, tolerance: u64) -> ProbeAnswer
             place: 0,
             offset: 0,
             verdict: Verdict::NoVerdict,
+        };
+    }
+    if reading == 0 {
+        return ProbeAnswer {
+            number: 0,
+            place: 0,
+            offset: 0,
+            verdict: Verdict::Unset,
         };
     }
     let offset = signed_offset(reading, expected);

@@ -6,6 +6,9 @@ fn expected_probe(reading: u64, expected: u64, tolerance: u64) -> Result<Probed,
     if tolerance >= 1 << 63 {
         return Err(Refusal::ToleranceTooLarge);
     }
+    if reading == 0 {
+        return Ok(Probed { offset: 0, verdict: Verdict::Unset });
+    }
     let apart = i128::from(reading) - i128::from(expected);
     let offset = [apart - (1 << 64), apart, apart + (1 << 64)].into_iter().find_map(|offset| i64::try_from(offset).ok());
     let offset = offset.expect("one of the three is a signed word");
@@ -19,7 +22,7 @@ fn expected_probe(reading: u64, expected: u64, tolerance: u64) -> Result<Probed,
 
 #[test]
 fn readings() {
-    let mut verdicts = [0; 4];
+    let mut verdicts = [0; 5];
     on_many("readings", |random| {
         let (reading, expected) = (word(random), word(random));
         let apart = reading.wrapping_sub(expected);
@@ -32,5 +35,5 @@ fn readings() {
         assert_eq!(answer, expected_probe(reading, expected, tolerance), "{reading} {expected} {tolerance}");
         verdicts[answer.map_or(0, |probed| 1 + probed.verdict as usize)] += 1;
     });
-    crate::tell(&format!("readings: refused, within, ahead, behind: {verdicts:?}"));
+    crate::tell(&format!("readings: refused, within, ahead, behind, unset: {verdicts:?}"));
 }
