@@ -67,13 +67,13 @@ module _ (_⊙_ : ℕ → ℕ → ℕ) (unit : ℕ) (right-unit : (a : ℕ) → 
       ∙ ap (λ z. _⊙_ c z) (sym (value-next f i))
 
   -- The join of two chains: ⊙ of the values.
-  joined-value : (f g : List ℕ) → value unit (joined _⊙_ unit f g) ≡ _⊙_ (value unit f) (value unit g)
+  pub joined-value : (f g : List ℕ) → value unit (joined _⊙_ unit f g) ≡ _⊙_ (value unit f) (value unit g)
   unfolding joined
   joined-value [] [] = sym (right-unit unit)
   joined-value [] (b ∷ g) = refl
   joined-value (a ∷ f) g = refl
 
-  joined-rest : (f g : List ℕ) → rest (joined _⊙_ unit f g) ≡ joined _⊙_ unit (rest f) (rest g)
+  pub joined-rest : (f g : List ℕ) → rest (joined _⊙_ unit f g) ≡ joined _⊙_ unit (rest f) (rest g)
   unfolding joined
   joined-rest [] g = rest-map (λ b. _⊙_ unit b) g
   joined-rest (a ∷ f) g = refl

@@ -1,0 +1,222 @@
+-- The calls for tables that run backwards: zeros past a chain's elements change nothing, so what a call works out on 17 words is what its outcome says on the
+-- trimmed chain; and what the outcomes promise: there and back, the length, one answer.
+use mathlib.Core.Path.{_≡_, refl, sym, ap, ap₂, subst, _∙_}
+use mathlib.Core.Bool.{cond}
+use mathlib.Core.List.{List, [], _∷_}
+use Prim.Native.Nat.{ℕ, zero, suc, _+_, _-_, _%_, _^_, _<_, _≤_}
+use native.Mathlib.Nat.{zero-mod, mod-mod, add-zero, add-mod-mod, le-of-suc-le-suc, not-suc-le-zero}
+use native.Mathlib.Omega.{arith}
+use lib.ListN.{length, getD, take, length-take, length-map}
+use lib.Seq.{take-length}
+use lib.Pow.{pow-pos}
+use borrow.Author.Tests.{le-ltb}
+use Rattle.word.specs.Word as Word
+use Rattle.word.proofs.Modulo.{outward}
+use Rattle.word.proofs.Ring as Ring
+use Rattle.chain.specs.Chain.{value, rest, shift, meeting, shiftFromTop, words, withLast, withoutTrailing, trimmed, row}
+use Rattle.chain.specs.BackwardChain.{convertedIn, converted, toBackward, toForward}
+use Rattle.chain.specs.BackwardChain as BackwardChain
+use Rattle.chain.specs.SumChain as SumChain
+use Rattle.chain.specs.Answer.{answered, refused, chain, given, trimOutcome}
+use Rattle.chain.specs.BackwardAnswer.{changed, toBackwardOutcome, toForwardOutcome}
+use Rattle.chain.proofs.Trimming.{row-trimmed, trimmed-row, length-row, length-trimmed, length-trimmed-some, take-trimmed, trimmed-twice, same-with-last, plus-zero, from-top-length, trimmed-length}
+use Rattle.chain.proofs.Rows.{words-whole}
+use Rattle.chain.proofs.Shifting.{length-shift, length-from-top}
+use Rattle.chain.proofs.Conversions.{convert-next, convert-none, length-converted, to-backward-words, to-forward-words, forward-again, backward-again}
+use Rattle.chain.proofs.Calls.{length-kept, length-given}
+
+-- ---- padding
+module _ (w : ℕ) (_⊙_ : ℕ → ℕ → ℕ) (right-zero : (a : ℕ) → _⊙_ (a % 2 ^ w) 0 ≡ a % 2 ^ w) where
+  zero-zero : _⊙_ 0 0 ≡ 0
+  zero-zero = ap (λ z. _⊙_ z 0) (sym (zero-mod (2 ^ w))) ∙ right-zero 0 ∙ zero-mod (2 ^ w)
+
+  top-zeros : (n : ℕ) → shiftFromTop _⊙_ (row n []) ≡ row n []
+  unfolding shiftFromTop row meeting
+  top-zeros zero = refl
+  top-zeros (suc n) = ap (λ g. meeting _⊙_ 0 g) (top-zeros n) ∙ go n
+    where
+      go : (n : ℕ) → meeting _⊙_ 0 (row n []) ≡ 0 ∷ row n []
+      go zero = refl
+      go (suc n) = ap {B = List ℕ} (λ z. z ∷ 0 ∷ row n []) zero-zero
+
+  pub top-pads : (n : ℕ) (f : List ℕ) → length f ≤ n → shiftFromTop _⊙_ (row n (words w f)) ≡ row n (shiftFromTop _⊙_ (words w f))
+  unfolding shiftFromTop row meeting
+  top-pads n [] h = top-zeros n
+  top-pads zero (a ∷ f) h = absurd (not-suc-le-zero h)
+  top-pads (suc n) (a ∷ f) h =
+      ap (λ g. meeting _⊙_ (a % 2 ^ w) g) (top-pads n f (le-of-suc-le-suc h))
+      ∙ go n (shiftFromTop _⊙_ (words w f)) (rw (length-from-top _⊙_ (words w f), length-map f (λ a. a % 2 ^ w)) (le-of-suc-le-suc h))
+    where
+      go : (n : ℕ) (g : List ℕ) → length g ≤ n → meeting _⊙_ (a % 2 ^ w) (row n g) ≡ row (suc n) (meeting _⊙_ (a % 2 ^ w) g)
+      go zero [] h = refl
+      go (suc n) [] h = ap {B = List ℕ} (λ z. z ∷ 0 ∷ row n []) (right-zero a)
+      go zero (b ∷ g) h = absurd (not-suc-le-zero h)
+      go (suc n) (b ∷ g) h = refl
+
+  bottom-zeros : (n : ℕ) → shift _⊙_ (row n []) ≡ row n []
+  unfolding shift row
+  bottom-zeros zero = refl
+  bottom-zeros (suc zero) = refl
+  bottom-zeros (suc (suc n)) = ap₂ {B = List ℕ} {C = List ℕ} _∷_ zero-zero (bottom-zeros (suc n))
+
+  pub bottom-pads : (n : ℕ) (f : List ℕ) → length f ≤ n → shift _⊙_ (row n (words w f)) ≡ row n (shift _⊙_ (words w f))
+  unfolding shift row
+  bottom-pads n [] h = bottom-zeros n
+  bottom-pads zero (a ∷ f) h = absurd (not-suc-le-zero h)
+  bottom-pads (suc zero) (a ∷ []) h = refl
+  bottom-pads (suc (suc n)) (a ∷ []) h = ap₂ {B = List ℕ} {C = List ℕ} _∷_ (right-zero a) (bottom-zeros (suc n))
+  bottom-pads (suc zero) (a ∷ b ∷ f) h = absurd (not-suc-le-zero (le-of-suc-le-suc h))
+  bottom-pads (suc (suc n)) (a ∷ b ∷ f) h = ap {B = List ℕ} (λ g. _⊙_ (a % 2 ^ w) (b % 2 ^ w) ∷ g) (bottom-pads (suc n) (b ∷ f) (le-of-suc-le-suc h))
+
+module _ (w : ℕ) (step : List ℕ → List ℕ) (keeps : (f : List ℕ) → length (step f) ≡ length f) (same : (f : List ℕ) → words w (step f) ≡ step (words w f))
+    (pads : (n : ℕ) (f : List ℕ) → length f ≤ n → step (row n (words w f)) ≡ row n (step (words w f))) where
+  step-none : step [] ≡ []
+  step-none = go (step []) (keeps [])
+    where
+      go : (g : List ℕ) → length g ≡ 0 → g ≡ []
+      go [] e = refl
+      go (a ∷ g) e = absurd (omega arith)
+
+  pub converted-pads : (n : ℕ) (f : List ℕ) → length f ≤ n → converted step (row n (words w f)) ≡ row n (converted step (words w f))
+  unfolding row
+  converted-pads zero f h = convert-none step
+  converted-pads (suc n) [] h =
+      convert-next step 0 (row n []) (keeps (row n []))
+      ∙ ap {B = List ℕ} (λ g. 0 ∷ converted step g) (pads n [] (omega arith) ∙ ap (λ g. row n g) step-none)
+      ∙ ap {B = List ℕ} (λ g. 0 ∷ g) (converted-pads n [] (omega arith) ∙ ap (λ g. row n g) (convert-none step))
+      ∙ ap (λ g. row (suc n) g) (sym (convert-none step))
+  converted-pads (suc n) (a ∷ f) h =
+      convert-next step (a % 2 ^ w) (row n (words w f)) (keeps (row n (words w f)))
+      ∙ ap {B = List ℕ} (λ g. (a % 2 ^ w) ∷ converted step g) (pads n f (le-of-suc-le-suc h) ∙ ap (λ g. row n g) (sym (same f)))
+      ∙ ap {B = List ℕ} (λ g. (a % 2 ^ w) ∷ g)
+      (converted-pads n (step f) (rw (keeps f) (le-of-suc-le-suc h)) ∙ ap (λ g. row n (converted step g)) (same f))
+      ∙ ap (λ g. row (suc n) g) (sym (convert-next step (a % 2 ^ w) (words w f) (keeps (words w f))))
+
+-- ---- the argument's words
+take-fits : (m n : ℕ) (f : List ℕ) → 0 < m → ((i : ℕ) → getD f i 0 < m) → (i : ℕ) → getD (take n f) i 0 < m
+take-fits m zero f some fits i = some
+take-fits m (suc n) [] some fits i = some
+take-fits m (suc n) (a ∷ f) some fits zero = fits 0
+take-fits m (suc n) (a ∷ f) some fits (suc i) = take-fits m n f some (λ j. fits (suc j)) i
+
+module _ (w : ℕ) (f : List ℕ) (k : ℕ) (long : length f ≡ 17) (fits : (i : ℕ) → getD f i 0 < 2 ^ w) where
+  kept-some : 0 < length (take (k + 1) f)
+  kept-some = rw (length-take (k + 1) f) (omega arith)
+
+  pub given-words : words w (given f k) ≡ given f k
+  given-words =
+      ap (λ g. words w g) (sym prefix)
+      ∙ words-whole w (take (length (given f k)) (take (k + 1) f)) (take-fits (2 ^ w) (length (given f k)) (take (k + 1) f) (pow-pos w) (take-fits (2 ^ w) (k + 1) f (pow-pos w) fits))
+      ∙ prefix
+    where
+      prefix : take (length (given f k)) (take (k + 1) f) ≡ given f k
+      prefix = take-trimmed 0 (take (k + 1) f) kept-some
+
+  -- 17 words that a change leaves trim to the outcome's chain.
+  pub changed-trims : (change : List ℕ → List ℕ) → ((g : List ℕ) → length (change g) ≡ length g)
+      → ((n : ℕ) (g : List ℕ) → length g ≤ n → change (row n (words w g)) ≡ row n (change (words w g)))
+      → trimmed 0 (change (row 17 (take (k + 1) f))) ≡ trimmed 0 (change (given f k))
+  changed-trims change keeps pads =
+      ap (λ g. trimmed 0 (change g)) (sym (row-trimmed 17 (take (k + 1) f)) ∙ ap (λ g. row 17 g) (sym given-words))
+      ∙ ap (λ g. trimmed 0 g) (pads 17 (given f k) (length-given f k long))
+      ∙ ap (λ g. trimmed 0 (row 17 (change g))) given-words
+      ∙ trimmed-row 16 (change (given f k)) (rw (keeps (given f k)) (length-given f k long))
+
+-- ---- "conversions keep the trimmed length"
+difference-zero : (w a b : ℕ) → b % 2 ^ w ≡ 0 → Word.difference w a b % 2 ^ w ≡ a % 2 ^ w
+difference-zero w a b e =
+    mod-mod (a + (2 ^ w - b % 2 ^ w)) (2 ^ w)
+    ∙ sym (Ring.sum-zero w (Word.difference w a b) ∙ mod-mod (a + (2 ^ w - b % 2 ^ w)) (2 ^ w))
+    ∙ ap (λ z. (Word.difference w a b + z) % 2 ^ w) (sym e)
+    ∙ add-mod-mod (Word.difference w a b) b (2 ^ w)
+    ∙ Ring.difference-sum w a b
+
+module _ (w : ℕ) (step : List ℕ → List ℕ) (keeps : (f : List ℕ) → length (step f) ≡ length f)
+    (trims : (f : List ℕ) → length (withoutTrailing 0 (words w (step f))) ≡ length (withoutTrailing 0 (words w f))) where
+  converted-trims : (n : ℕ) (f : List ℕ) → length f ≡ n
+      → length (withoutTrailing 0 (words w (converted step f))) ≡ length (withoutTrailing 0 (words w f))
+  unfolding withoutTrailing
+  converted-trims zero [] e = ap (λ g. length (withoutTrailing 0 (words w g))) (convert-none step)
+  converted-trims zero (a ∷ f) e = absurd (omega arith)
+  converted-trims (suc n) [] e = ap (λ g. length (withoutTrailing 0 (words w g))) (convert-none step)
+  converted-trims (suc n) (a ∷ f) e =
+      ap (λ g. length (withoutTrailing 0 (words w g))) (convert-next step a f (keeps f))
+      ∙ same-with-last w (a % 2 ^ w) (a % 2 ^ w) (withoutTrailing 0 (words w (converted step (step f)))) (withoutTrailing 0 (words w f))
+      (converted-trims n (step f) (keeps f ∙ omega arith) ∙ trims f) (λ _. refl)
+
+  pub converted-length : (f : List ℕ) → length (trimmed 0 (words w (converted step f))) ≡ length (trimmed 0 (words w f))
+  converted-length f = trimmed-length w (converted step f) f (go f)
+    where
+      go : (f : List ℕ) → length (withoutTrailing 0 (words w (rest (converted step f)))) ≡ length (withoutTrailing 0 (words w (rest f)))
+      go [] = ap (λ g. length (withoutTrailing 0 (words w (rest g)))) (convert-none step)
+      go (a ∷ f) =
+          ap (λ g. length (withoutTrailing 0 (words w (rest g)))) (convert-next step a f (keeps f))
+          ∙ converted-trims (length f) (step f) (keeps f)
+          ∙ trims f
+
+module _ (w : ℕ) where
+  pub to-backward-length : (f : List ℕ) → length (trimmed 0 (toBackward w (words w f))) ≡ length (trimmed 0 (words w f))
+  to-backward-length f =
+      ap (λ g. length (trimmed 0 g)) (sym (to-backward-words w f))
+      ∙ converted-length w (SumChain.inverseShift w) (length-from-top (Word.difference w)) (from-top-length w (Word.difference w) (difference-zero w)) f
+
+  pub to-forward-length : (f : List ℕ) → length (trimmed 0 (words w (toForward f))) ≡ length (trimmed 0 (words w f))
+  to-forward-length f =
+      converted-length w BackwardChain.shift (length-from-top _+_) (from-top-length w _+_ (plus-zero w)) f
+
+-- ---- "Converting there and back gives the trimmed chain again", as calls: what one conversion answers is given to the other
+take-row : (n : ℕ) (d : List ℕ) → length d ≤ n → take (length d) (row n d) ≡ d
+unfolding row
+take-row n [] h = refl
+take-row zero (a ∷ d) h = absurd (not-suc-le-zero h)
+take-row (suc n) (a ∷ d) h = ap {B = List ℕ} (λ g. a ∷ g) (take-row n d (le-of-suc-le-suc h))
+
+-- An answer's elements and length give its chain again.
+given-answer : (d : List ℕ) → trimmed 0 d ≡ d → length d ≤ 17 → given (row 17 d) (length d - 1) ≡ d
+given-answer d e h =
+    ap (λ n. trimmed 0 (take n (row 17 d))) counted ∙ ap (λ g. trimmed 0 g) (take-row 17 d h) ∙ e
+  where
+    counted : length d - 1 + 1 ≡ length d
+    counted = omega (arith, ap length e, length-trimmed-some 0 d)
+
+-- A chain whose trimmed length is its length is trimmed.
+whole-trimmed : (g : List ℕ) → 0 < length g → length (trimmed 0 g) ≡ length g → trimmed 0 g ≡ g
+whole-trimmed g some e = sym (take-trimmed 0 g some) ∙ ap (λ n. take n g) e ∙ take-length g
+
+module _ (w : ℕ) (f : List ℕ) (k : ℕ) (long : length f ≡ 17) (fits : (i : ℕ) → getD f i 0 < 2 ^ w) (short : k ≤ 16) where
+  -- The one conversion and the other, of the trimmed chain: each keeps its length, and the second gives it again.
+  round : (there back : List ℕ → List ℕ) → length (there (given f k)) ≡ length (given f k)
+      → length (trimmed 0 (there (given f k))) ≡ length (trimmed 0 (given f k)) → back (there (given f k)) ≡ given f k
+      → changed back (answered (changed there f k) .elements) (answered (changed there f k) .length) ≡ trimOutcome f k
+  round there back keeps trims again =
+      ap (λ r. changed back (answered r .elements) (answered r .length)) first
+      ∙ ap (λ o. cond o (refused 14) (chain (trimmed 0 (back (given (row 17 (there c)) (length (there c) - 1)))))) (le-ltb 16 (length (there c) - 1) (omega (arith, keeps, length-given f k long)))
+      ∙ ap (λ g. chain (trimmed 0 (back g))) (given-answer (there c) whole (omega (arith, keeps, length-given f k long)))
+      ∙ ap (λ g. chain (trimmed 0 g)) again
+      ∙ ap chain (trimmed-twice 0 (take (k + 1) f))
+      ∙ sym (ap (λ o. cond o (refused 14) (chain c)) (le-ltb 16 k short))
+    where
+      c : List ℕ
+      c = given f k
+
+      whole : trimmed 0 (there c) ≡ there c
+      whole =
+          whole-trimmed (there c) (omega (arith, keeps, length-trimmed-some 0 (take (k + 1) f)))
+          (trims ∙ ap length (trimmed-twice 0 (take (k + 1) f)) ∙ sym keeps)
+
+      first : changed there f k ≡ chain (there c)
+      first = ap (λ o. cond o (refused 14) (chain (trimmed 0 (there c)))) (le-ltb 16 k short) ∙ ap chain whole
+
+  pub forward-call-again : toForwardOutcome w (answered (toBackwardOutcome w f k) .elements) (answered (toBackwardOutcome w f k) .length) ≡ trimOutcome f k
+  forward-call-again =
+      round (toBackward w) (λ c. words w (toForward c))
+      (length-converted (SumChain.inverseShift w) (length-from-top (Word.difference w)) (given f k))
+      (subst (λ c. length (trimmed 0 (toBackward w c)) ≡ length (trimmed 0 c)) (given-words w f k long fits) (to-backward-length w (given f k)))
+      (subst (λ c. words w (toForward (toBackward w c)) ≡ c) (given-words w f k long fits) (forward-again w (given f k)))
+
+  pub backward-call-again : toBackwardOutcome w (answered (toForwardOutcome w f k) .elements) (answered (toForwardOutcome w f k) .length) ≡ trimOutcome f k
+  backward-call-again =
+      round (λ c. words w (toForward c)) (toBackward w)
+      (length-map (toForward (given f k)) (λ a. a % 2 ^ w) ∙ length-converted BackwardChain.shift (length-from-top _+_) (given f k))
+      (to-forward-length w (given f k) ∙ ap (λ c. length (trimmed 0 c)) (given-words w f k long fits))
+      (backward-again w (given f k) ∙ given-words w f k long fits)
