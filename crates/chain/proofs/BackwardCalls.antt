@@ -20,7 +20,7 @@ use Rattle.chain.specs.SumChain as SumChain
 use Rattle.chain.specs.Answer.{answered, refused, chain, given, trimOutcome}
 use Rattle.chain.specs.BackwardAnswer.{changed, toBackwardOutcome, toForwardOutcome}
 use Rattle.chain.proofs.Trimming.{row-trimmed, trimmed-row, length-row, length-trimmed, length-trimmed-some, take-trimmed, trimmed-twice, same-with-last, plus-zero, from-top-length, trimmed-length}
-use Rattle.chain.proofs.Rows.{words-whole}
+use Rattle.chain.proofs.Rows.{entry-words, words-whole}
 use Rattle.chain.proofs.Shifting.{length-shift, length-from-top}
 use Rattle.chain.proofs.Conversions.{convert-next, convert-none, length-converted, to-backward-words, to-forward-words, forward-again, backward-again}
 use Rattle.chain.proofs.Calls.{length-kept, length-given}
@@ -99,18 +99,26 @@ take-fits m (suc n) [] some fits i = some
 take-fits m (suc n) (a ∷ f) some fits zero = fits 0
 take-fits m (suc n) (a ∷ f) some fits (suc i) = take-fits m n f some (λ j. fits (suc j)) i
 
+-- Trimming keeps words words.
+pub trimmed-words : (w : ℕ) (f : List ℕ) → words w (trimmed 0 (words w f)) ≡ trimmed 0 (words w f)
+unfolding trimmed withoutTrailing
+trimmed-words w [] = ap {B = List ℕ} (λ z. z ∷ []) (zero-mod (2 ^ w))
+trimmed-words w (a ∷ f) =
+    ap (λ g. words w g) (sym prefix)
+    ∙ words-whole w (take (length (trimmed 0 (words w (a ∷ f)))) (words w (a ∷ f)))
+    (take-fits (2 ^ w) (length (trimmed 0 (words w (a ∷ f)))) (words w (a ∷ f)) (pow-pos w) (λ i. rw (entry-words w (a ∷ f) i) (Ring.word-fits w (getD (a ∷ f) i 0))))
+    ∙ prefix
+  where
+    prefix : take (length (trimmed 0 (words w (a ∷ f)))) (words w (a ∷ f)) ≡ trimmed 0 (words w (a ∷ f))
+    prefix = take-trimmed 0 (words w (a ∷ f)) (omega arith)
+
 module _ (w : ℕ) (f : List ℕ) (k : ℕ) (long : length f ≡ 17) (fits : (i : ℕ) → getD f i 0 < 2 ^ w) where
-  kept-some : 0 < length (take (k + 1) f)
-  kept-some = rw (length-take (k + 1) f) (omega arith)
+  pub kept-words : words w (take (k + 1) f) ≡ take (k + 1) f
+  kept-words = words-whole w (take (k + 1) f) (take-fits (2 ^ w) (k + 1) f (pow-pos w) fits)
 
   pub given-words : words w (given f k) ≡ given f k
   given-words =
-      ap (λ g. words w g) (sym prefix)
-      ∙ words-whole w (take (length (given f k)) (take (k + 1) f)) (take-fits (2 ^ w) (length (given f k)) (take (k + 1) f) (pow-pos w) (take-fits (2 ^ w) (k + 1) f (pow-pos w) fits))
-      ∙ prefix
-    where
-      prefix : take (length (given f k)) (take (k + 1) f) ≡ given f k
-      prefix = take-trimmed 0 (take (k + 1) f) kept-some
+      ap (λ g. words w (trimmed 0 g)) (sym kept-words) ∙ trimmed-words w (take (k + 1) f) ∙ ap (λ g. trimmed 0 g) kept-words
 
   -- 17 words that a change leaves trim to the outcome's chain.
   pub changed-trims : (change : List ℕ → List ℕ) → ((g : List ℕ) → length (change g) ≡ length g)
