@@ -1,17 +1,21 @@
 -- Backward sum chains: shift and inverse shift cancel in either order, for forward chains too, and the value of a sum and of a product at every index, ahead of
 -- the present one and before it.
 use mathlib.Core.Path.{_≡_, refl, sym, ap, ap₂, _∙_}
+use mathlib.Core.Bool.{Bool, true, false, cond}
 use mathlib.Core.List.{List, [], _∷_}
 use Prim.Native.Nat.{ℕ, zero, suc, _+_, _-_, _*_, _%_, _^_}
 use native.Mathlib.Nat.{zero-mod, add-zero, mul-zero, mod-mod}
 use native.Mathlib.Omega.{arith}
+use lib.Dec.{eqb}
+use borrow.Author.Tests.{eqb-true}
 use Rattle.word.specs.Word as Word
 use Rattle.word.proofs.Modulo.{outward, add-same, mul-same}
-use Rattle.chain.specs.Chain.{value, rest, meeting, shiftFromTop, shifted, valueAt, words}
+use Rattle.chain.specs.Chain.{value, rest, meeting, shiftFromTop, shifted, valueAt, words, withLast, withoutTrailing, trimmed}
 use Rattle.chain.specs.SumChain.{sumShift, sum, times, productBy}
 use Rattle.chain.specs.SumChain as SumChain
 use Rattle.chain.specs.BackwardChain.{shift, inverseShift, after, valueAhead, valueBefore, product}
 use Rattle.chain.proofs.Values as Values
+use Rattle.chain.proofs.Trimming.{value-trimmed}
 use Rattle.chain.proofs.SumLaws.{minus-is, product-by-none, product-by-value}
 use Rattle.chain.proofs.Shifting.{top-undoes-bottom, bottom-undoes-top, sum-undone, difference-undone, words-shift, words-from-top, sum-of-words, difference-of-words}
 use Rattle.chain.specs.Chain as Chain
@@ -27,6 +31,10 @@ pub after-along : (h : List ℕ → List ℕ) (step there : List ℕ → List �
 unfolding after
 after-along h step there same zero f = refl
 after-along h step there same (suc i) f = after-along h step there same i (step f) ∙ ap (λ g. after there i g) (same f)
+
+pub words-twice : (w : ℕ) (f : List ℕ) → words w (words w f) ≡ words w f
+words-twice w [] = refl
+words-twice w (a ∷ f) = ap₂ {B = List ℕ} {C = List ℕ} _∷_ (mod-mod a (2 ^ w)) (words-twice w f)
 
 module _ (w : ℕ) where
   -- ---- steps of words
@@ -66,22 +74,17 @@ module _ (w : ℕ) where
   pub ahead-as : (f : List ℕ) (i : ℕ) → valueAhead f i % 2 ^ w ≡ value 0 (after (shiftFromTop (Word.sum w)) i (words w f))
   ahead-as f i = value-of-words (after shift i f) ∙ ap (λ g. value 0 g) (after-along (words w) shift (shiftFromTop (Word.sum w)) backward-words i f)
 
+  pub ahead-words : (f : List ℕ) (i : ℕ) → valueAhead (words w f) i % 2 ^ w ≡ valueAhead f i % 2 ^ w
+  ahead-words f i =
+      ahead-as (words w f) i ∙ ap (λ g. value 0 (after (shiftFromTop (Word.sum w)) i g)) (words-twice w f) ∙ sym (ahead-as f i)
+
   -- An inverse shift goes back by one index.
-  ahead-unshift : (f : List ℕ) (i : ℕ) → valueAhead (inverseShift w f) (suc i) % 2 ^ w ≡ valueAhead f i % 2 ^ w
+  pub ahead-unshift : (f : List ℕ) (i : ℕ) → valueAhead (inverseShift w f) (suc i) % 2 ^ w ≡ valueAhead f i % 2 ^ w
   unfolding after
   ahead-unshift f i =
       ahead-as (shift (inverseShift w f)) i
       ∙ ap (λ g. value 0 (after (shiftFromTop (Word.sum w)) i g)) (backward-shift-unshift f)
       ∙ sym (ahead-as f i)
-
-top-rest : (f : List ℕ) → rest (shift f) ≡ shift (rest f)
-unfolding shiftFromTop meeting
-top-rest [] = refl
-top-rest (a ∷ f) = go (shift f)
-  where
-    go : (g : List ℕ) → rest (meeting _+_ a g) ≡ g
-    go [] = refl
-    go (b ∷ g) = refl
 
 top-value : (f : List ℕ) → value 0 (shift f) ≡ value 0 f + value 0 (shift (rest f))
 unfolding shiftFromTop meeting
@@ -98,12 +101,42 @@ ahead-next f i =
     ap (λ g. value 0 g) (after-next shift i f)
     ∙ top-value (after shift i f)
     ∙ ap (λ g. valueAhead f i + value 0 g)
-    (ap (λ g. shift g) (after-along rest shift shift top-rest i f) ∙ sym (after-next shift i (rest f)))
+    (ap (λ g. shift g) (after-along rest shift shift (Values.from-top-rest _+_) i f) ∙ sym (after-next shift i (rest f)))
 
 ahead-none : (i : ℕ) → valueAhead [] i ≡ 0
 unfolding after shiftFromTop
 ahead-none zero = refl
 ahead-none (suc i) = ahead-none i
+
+-- Trimming changes no value.
+ahead-cons : (a : ℕ) (f g : List ℕ) → ((i : ℕ) → valueAhead f i ≡ valueAhead g i) → (i : ℕ) → valueAhead (a ∷ f) i ≡ valueAhead (a ∷ g) i
+unfolding after
+ahead-cons a f g same zero = refl
+ahead-cons a f g same (suc i) = ahead-next (a ∷ f) i ∙ ap₂ _+_ (ahead-cons a f g same i) (same (suc i)) ∙ sym (ahead-next (a ∷ g) i)
+
+ahead-constant : (a i : ℕ) → valueAhead (a ∷ []) i ≡ a
+unfolding after
+ahead-constant a zero = refl
+ahead-constant a (suc i) = ahead-next (a ∷ []) i ∙ ap₂ _+_ (ahead-constant a i) (ahead-none (suc i)) ∙ add-zero a
+
+ahead-with-last : (a : ℕ) (f : List ℕ) (i : ℕ) → valueAhead (withLast 0 a f) i ≡ valueAhead (a ∷ f) i
+unfolding withLast
+ahead-with-last a [] i = go (eqb a 0) refl
+  where
+    go : (t : Bool) → eqb a 0 ≡ t → valueAhead (cond t [] (a ∷ [])) i ≡ valueAhead (a ∷ []) i
+    go true e = ahead-none i ∙ sym (eqb-true a 0 e) ∙ sym (ahead-constant a i)
+    go false e = refl
+ahead-with-last a (b ∷ f) i = refl
+
+ahead-without-trailing : (f : List ℕ) (i : ℕ) → valueAhead (withoutTrailing 0 f) i ≡ valueAhead f i
+unfolding withoutTrailing
+ahead-without-trailing [] i = refl
+ahead-without-trailing (a ∷ f) i = ahead-with-last a (withoutTrailing 0 f) i ∙ ahead-cons a (withoutTrailing 0 f) f (ahead-without-trailing f) i
+
+pub ahead-trimmed : (f : List ℕ) (i : ℕ) → valueAhead (trimmed 0 f) i ≡ valueAhead f i
+unfolding trimmed withoutTrailing
+ahead-trimmed [] i = ahead-constant 0 i ∙ sym (ahead-none i)
+ahead-trimmed (a ∷ f) i = ahead-cons a (withoutTrailing 0 f) f (ahead-without-trailing f) i
 
 swap : (a b c d : ℕ) → (a + b) + (c + d) ≡ (a + c) + (b + d)
 swap a b c d = omega arith
@@ -207,8 +240,20 @@ module _ (w : ℕ) where
       ∙ ap (λ g. value 0 g) (after-along (words w) (inverseShift w) (inverseShift w) (backward-inverse-words w) i f ∙ sym (shifted-as i f))
       ∙ sym (value-of-words w (shifted less i f))
 
+  pub before-words : (f : List ℕ) (i : ℕ) → valueBefore w (words w f) i % 2 ^ w ≡ valueBefore w f i % 2 ^ w
+  before-words f i =
+      same (words w f) ∙ ap (λ g. value 0 (after (inverseShift w) i g)) (words-twice w f) ∙ sym (same f)
+    where
+      same : (f : List ℕ) → valueBefore w f i % 2 ^ w ≡ value 0 (after (inverseShift w) i (words w f))
+      same f =
+          value-of-words w (after (inverseShift w) i f)
+          ∙ ap (λ g. value 0 g) (after-along (words w) (inverseShift w) (inverseShift w) (backward-inverse-words w) i f)
+
   pub before-next : (f : List ℕ) (i : ℕ) → valueAt less 0 f (suc i) ≡ less (valueAt less 0 f i) (valueAt less 0 (rest f) i)
   before-next f i = Values.value-next less 0 less-zero f i
+
+  pub before-trimmed : (f : List ℕ) (i : ℕ) → valueBefore w (trimmed 0 f) i % 2 ^ w ≡ valueBefore w f i % 2 ^ w
+  before-trimmed f i = before-as (trimmed 0 f) i ∙ ap (λ z. z % 2 ^ w) (value-trimmed less 0 less-zero f i) ∙ sym (before-as f i)
 
   whole-sum : (i : ℕ) (f g : List ℕ) → valueAt less 0 (sum f g) i ≡ valueAt less 0 f i + valueAt less 0 g i
   whole-sum zero f g =

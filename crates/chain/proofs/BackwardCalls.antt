@@ -17,11 +17,12 @@ use Rattle.chain.specs.Chain.{value, rest, shift, meeting, shiftFromTop,
 use Rattle.chain.specs.BackwardChain.{convertedIn, converted, toBackward, toForward}
 use Rattle.chain.specs.BackwardChain as BackwardChain
 use Rattle.chain.specs.SumChain as SumChain
-use Rattle.chain.specs.Answer.{answered, refused, chain, given, trimOutcome}
-use Rattle.chain.specs.BackwardAnswer.{changed, toBackwardOutcome, toForwardOutcome}
-use Rattle.chain.proofs.Trimming.{row-trimmed, trimmed-row, length-row, length-trimmed, length-trimmed-some, take-trimmed, trimmed-twice, same-with-last, plus-zero, from-top-length, trimmed-length}
+use Rattle.chain.specs.Answer.{answered, refused, chain, given, trimOutcome, shiftOutcome}
+use Rattle.chain.specs.BackwardAnswer.{changed, inverseShiftOutcome, backwardShiftOutcome, backwardInverseShiftOutcome, toBackwardOutcome, toForwardOutcome}
+use Rattle.chain.proofs.Trimming.{row-trimmed, trimmed-row, length-row, length-trimmed, length-trimmed-some, take-trimmed, trimmed-twice, same-with-last, plus-zero, from-top-length, trimmed-length, bottom-keeps-length, top-keeps-length}
 use Rattle.chain.proofs.Rows.{entry-words, words-whole}
-use Rattle.chain.proofs.Shifting.{length-shift, length-from-top}
+use Rattle.chain.proofs.Shifting.{length-shift, length-from-top, unshift-shift}
+use Rattle.chain.proofs.Backward.{forward-inverse-words, backward-inverse-words, shift-unshift, backward-unshift-shift, backward-shift-unshift}
 use Rattle.chain.proofs.Conversions.{convert-next, convert-none, length-converted, to-backward-words, to-forward-words, forward-again, backward-again}
 use Rattle.chain.proofs.Calls.{length-kept, length-given}
 
@@ -192,6 +193,17 @@ whole-trimmed : (g : List ℕ) → 0 < length g → length (trimmed 0 g) ≡ len
 whole-trimmed g some e = sym (take-trimmed 0 g some) ∙ ap (λ n. take n g) e ∙ take-length g
 
 module _ (w : ℕ) (f : List ℕ) (k : ℕ) (long : length f ≡ 17) (fits : (i : ℕ) → getD f i 0 < 2 ^ w) (short : k ≤ 16) where
+  abbrev c : List ℕ
+  c = given f k
+
+  as-words : words w c ≡ c
+  as-words = given-words w f k long fits
+
+  trims-words : (step : List ℕ → List ℕ) → ((g : List ℕ) → words w (step g) ≡ step (words w g))
+      → ((g : List ℕ) → length (trimmed 0 (words w (step g))) ≡ length (trimmed 0 (words w g))) → length (trimmed 0 (step c)) ≡ length (trimmed 0 c)
+  trims-words step same keeps =
+      subst (λ g. length (trimmed 0 (step g)) ≡ length (trimmed 0 g)) as-words (ap (λ g. length (trimmed 0 g)) (sym (same c)) ∙ keeps c)
+
   -- The one conversion and the other, of the trimmed chain: each keeps its length, and the second gives it again.
   round : (there back : List ℕ → List ℕ) → length (there (given f k)) ≡ length (given f k)
       → length (trimmed 0 (there (given f k))) ≡ length (trimmed 0 (given f k)) → back (there (given f k)) ≡ given f k
@@ -204,9 +216,6 @@ module _ (w : ℕ) (f : List ℕ) (k : ℕ) (long : length f ≡ 17) (fits : (i 
       ∙ ap chain (trimmed-twice 0 (take (k + 1) f))
       ∙ sym (ap (λ o. cond o (refused 14) (chain c)) (le-ltb 16 k short))
     where
-      c : List ℕ
-      c = given f k
-
       whole : trimmed 0 (there c) ≡ there c
       whole =
           whole-trimmed (there c) (omega (arith, keeps, length-trimmed-some 0 (take (k + 1) f)))
@@ -218,13 +227,50 @@ module _ (w : ℕ) (f : List ℕ) (k : ℕ) (long : length f ≡ 17) (fits : (i 
   pub forward-call-again : toForwardOutcome w (answered (toBackwardOutcome w f k) .elements) (answered (toBackwardOutcome w f k) .length) ≡ trimOutcome f k
   forward-call-again =
       round (toBackward w) (λ c. words w (toForward c))
-      (length-converted (SumChain.inverseShift w) (length-from-top (Word.difference w)) (given f k))
-      (subst (λ c. length (trimmed 0 (toBackward w c)) ≡ length (trimmed 0 c)) (given-words w f k long fits) (to-backward-length w (given f k)))
-      (subst (λ c. words w (toForward (toBackward w c)) ≡ c) (given-words w f k long fits) (forward-again w (given f k)))
+      (length-converted (SumChain.inverseShift w) (length-from-top (Word.difference w)) c)
+      (subst (λ c. length (trimmed 0 (toBackward w c)) ≡ length (trimmed 0 c)) as-words (to-backward-length w c))
+      (subst (λ c. words w (toForward (toBackward w c)) ≡ c) as-words (forward-again w c))
 
   pub backward-call-again : toBackwardOutcome w (answered (toForwardOutcome w f k) .elements) (answered (toForwardOutcome w f k) .length) ≡ trimOutcome f k
   backward-call-again =
       round (λ c. words w (toForward c)) (toBackward w)
-      (length-map (toForward (given f k)) (λ a. a % 2 ^ w) ∙ length-converted BackwardChain.shift (length-from-top _+_) (given f k))
-      (to-forward-length w (given f k) ∙ ap (λ c. length (trimmed 0 c)) (given-words w f k long fits))
-      (backward-again w (given f k) ∙ given-words w f k long fits)
+      (length-map (toForward c) (λ a. a % 2 ^ w) ∙ length-converted BackwardChain.shift (length-from-top _+_) c)
+      (to-forward-length w c ∙ ap (λ c. length (trimmed 0 c)) as-words)
+      (backward-again w c ∙ as-words)
+
+  -- ---- "shift and inverse shift cancel in either order", as calls, for both kinds
+  pub shift-call-undone : inverseShiftOutcome w (answered (shiftOutcome w f k) .elements) (answered (shiftOutcome w f k) .length) ≡ trimOutcome f k
+  shift-call-undone =
+      round (λ c. words w (SumChain.sumShift c)) (SumChain.inverseShift w)
+      (length-map (SumChain.sumShift c) (λ a. a % 2 ^ w) ∙ length-shift _+_ c)
+      (bottom-keeps-length w _+_ (plus-zero w) c ∙ ap (λ c. length (trimmed 0 c)) as-words)
+      (unshift-shift w c ∙ as-words)
+
+  pub inverse-call-undone : shiftOutcome w (answered (inverseShiftOutcome w f k) .elements) (answered (inverseShiftOutcome w f k) .length) ≡ trimOutcome f k
+  inverse-call-undone =
+      round (SumChain.inverseShift w) (λ c. words w (SumChain.sumShift c)) (length-from-top (Word.difference w) c)
+      (trims-words (SumChain.inverseShift w) (forward-inverse-words w) (top-keeps-length w (Word.difference w) (difference-zero w)))
+      (shift-unshift w c ∙ as-words)
+
+  pub backward-shift-call-undone :
+      backwardInverseShiftOutcome w (answered (backwardShiftOutcome w f k) .elements) (answered (backwardShiftOutcome w f k) .length) ≡ trimOutcome f k
+  backward-shift-call-undone =
+      round (λ c. words w (BackwardChain.shift c)) (BackwardChain.inverseShift w)
+      (length-map (BackwardChain.shift c) (λ a. a % 2 ^ w) ∙ length-from-top _+_ c)
+      (top-keeps-length w _+_ (plus-zero w) c ∙ ap (λ c. length (trimmed 0 c)) as-words)
+      (backward-unshift-shift w c ∙ as-words)
+
+  pub backward-inverse-call-undone :
+      backwardShiftOutcome w (answered (backwardInverseShiftOutcome w f k) .elements) (answered (backwardInverseShiftOutcome w f k) .length) ≡ trimOutcome f k
+  backward-inverse-call-undone =
+      round (BackwardChain.inverseShift w) (λ c. words w (BackwardChain.shift c)) (length-shift (Word.difference w) c)
+      (trims-words (BackwardChain.inverseShift w) (backward-inverse-words w) (bottom-keeps-length w (Word.difference w) (difference-zero w)))
+      (backward-shift-unshift w c ∙ as-words)
+
+-- The chain that an accepted call's answer holds, as the next call is given it.
+pub changed-held : (f : List ℕ) (k : ℕ) (change : List ℕ → List ℕ) → length f ≡ 17 → k ≤ 16 → length (change (given f k)) ≡ length (given f k)
+    → given (answered (changed change f k) .elements) (answered (changed change f k) .length) ≡ trimmed 0 (change (given f k))
+changed-held f k change long short keeps =
+    ap (λ o. given (answered o .elements) (answered o .length)) (ap (λ o. cond o (refused 14) (chain (trimmed 0 (change (given f k))))) (le-ltb 16 k short))
+    ∙ given-answer (trimmed 0 (change (given f k))) (trimmed-twice 0 (change (given f k)))
+    (length-trimmed 0 (change (given f k)) 16 (omega (arith, keeps, length-given f k long)))

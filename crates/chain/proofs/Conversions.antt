@@ -15,7 +15,7 @@ use Rattle.chain.specs.BackwardChain.{after, valueAhead, valueBefore, co
 use Rattle.chain.specs.BackwardChain as BackwardChain
 use Rattle.chain.proofs.SumLaws.{value-words}
 use Rattle.chain.proofs.Shifting.{length-shift, length-from-top, top-undoes-bottom, bottom-undoes-top, sum-undone, difference-undone, words-shift, words-from-top, difference-of-words}
-use Rattle.chain.proofs.Backward.{after-along, forward-words, forward-inverse-words, backward-words, backward-inverse-words, value-of-words, ahead-as}
+use Rattle.chain.proofs.Backward.{after-along, words-twice, ahead-words, forward-words, forward-inverse-words, backward-words, backward-inverse-words, value-of-words, ahead-as}
 
 -- The paper's equation: the first element stays, and the rest is converted after one step.
 pub convert-next : (step : List ℕ → List ℕ) (a : ℕ) (f : List ℕ) → length (step f) ≡ length f → converted step (a ∷ f) ≡ a ∷ converted step (step f)
@@ -127,10 +127,6 @@ module _ (w : ℕ) where
   word-sum-of-words : (a b : ℕ) → Word.sum w a b % 2 ^ w ≡ Word.sum w (a % 2 ^ w) (b % 2 ^ w)
   word-sum-of-words a b = simp outward
 
-  words-twice : (f : List ℕ) → words w (words w f) ≡ words w f
-  words-twice [] = refl
-  words-twice (a ∷ f) = ap₂ {B = List ℕ} {C = List ℕ} _∷_ (mod-mod a (2 ^ w)) (words-twice f)
-
   -- ---- conversions of words
   pub to-forward-words : (f : List ℕ) → words w (toForward f) ≡ converted (shiftFromTop (Word.sum w)) (words w f)
   to-forward-words f = converted-words w BackwardChain.shift (shiftFromTop (Word.sum w)) (length-from-top _+_) (backward-words w) f
@@ -143,7 +139,7 @@ module _ (w : ℕ) where
   pub forward-again : (f : List ℕ) → words w (toForward (toBackward w (words w f))) ≡ words w f
   forward-again f =
       to-forward-words (toBackward w (words w f))
-      ∙ ap (λ g. converted (shiftFromTop (Word.sum w)) g) (to-backward-words (words w f) ∙ ap (λ g. toBackward w g) (words-twice f))
+      ∙ ap (λ g. converted (shiftFromTop (Word.sum w)) g) (to-backward-words (words w f) ∙ ap (λ g. toBackward w g) (words-twice w f))
       ∙ there-and-back w (Word.sum w) (Word.difference w) (sum-undone w) (difference-undone w) word-sum-of-words (difference-of-words w) f
 
   pub backward-again : (f : List ℕ) → toBackward w (words w (toForward f)) ≡ words w f
@@ -196,20 +192,18 @@ module _ (w : ℕ) where
       sym (value-words w (toForward f) i)
       ∙ sym (same-ahead (words w (toForward f)) i)
       ∙ ap (λ g. valueAhead g i % 2 ^ w) (backward-again f)
-      ∙ ahead-as w (words w f) i
-      ∙ ap (λ g. value 0 (after (shiftFromTop (Word.sum w)) i g)) (words-twice f)
-      ∙ sym (ahead-as w f i)
+      ∙ ahead-words w f i
 
-  before-words : (step : List ℕ → List ℕ) → ((f : List ℕ) → words w (step f) ≡ step (words w f)) → (f : List ℕ) (i : ℕ)
+  steps-words : (step : List ℕ → List ℕ) → ((f : List ℕ) → words w (step f) ≡ step (words w f)) → (f : List ℕ) (i : ℕ)
       → value 0 (after step i f) % 2 ^ w ≡ value 0 (after step i (words w f)) % 2 ^ w
-  before-words step same f i =
+  steps-words step same f i =
       value-of-words w (after step i f)
-      ∙ ap (λ g. value 0 g) (after-along (words w) step step same i f ∙ ap (λ g. after step i g) (sym (words-twice f)) ∙ sym (after-along (words w) step step same i (words w f)))
+      ∙ ap (λ g. value 0 g) (after-along (words w) step step same i f ∙ ap (λ g. after step i g) (sym (words-twice w f)) ∙ sym (after-along (words w) step step same i (words w f)))
       ∙ sym (value-of-words w (after step i (words w f)))
 
   pub forward-before : (f : List ℕ) (i : ℕ) → value 0 (after (SumChain.inverseShift w) i (toForward f)) % 2 ^ w ≡ valueBefore w f i % 2 ^ w
   forward-before f i =
-      before-words (SumChain.inverseShift w) (forward-inverse-words w) (toForward f) i
+      steps-words (SumChain.inverseShift w) (forward-inverse-words w) (toForward f) i
       ∙ sym (same-before (words w (toForward f)) i)
       ∙ ap (λ g. valueBefore w g i % 2 ^ w) (backward-again f)
-      ∙ sym (before-words (BackwardChain.inverseShift w) (backward-inverse-words w) f i)
+      ∙ sym (steps-words (BackwardChain.inverseShift w) (backward-inverse-words w) f i)

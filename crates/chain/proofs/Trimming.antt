@@ -239,7 +239,7 @@ module _ (w : ℕ) where
   same-with-last a b (x ∷ f) (y ∷ g) e same = ap suc e
 
   module _ (_⊙_ : ℕ → ℕ → ℕ) (right-zero : (a b : ℕ) → b % 2 ^ w ≡ 0 → _⊙_ a b % 2 ^ w ≡ a % 2 ^ w) where
-    shift-length : (f : List ℕ) → length (withoutTrailing 0 (words w (shift _⊙_ f))) ≡ length (withoutTrailing 0 (words w f))
+    pub shift-length : (f : List ℕ) → length (withoutTrailing 0 (words w (shift _⊙_ f))) ≡ length (withoutTrailing 0 (words w f))
     unfolding shift withoutTrailing
     shift-length [] = refl
     shift-length (a ∷ []) = refl
@@ -269,9 +269,19 @@ module _ (w : ℕ) where
       ∙ ap suc e
       ∙ ap (λ h. suc (length (withoutTrailing 0 h))) (sym (Values.rest-map (λ a. a % 2 ^ w) g))
 
+  module _ (_⊙_ : ℕ → ℕ → ℕ) (right-zero : (a b : ℕ) → b % 2 ^ w ≡ 0 → _⊙_ a b % 2 ^ w ≡ a % 2 ^ w) where
+    pub bottom-keeps-length : (f : List ℕ) → length (trimmed 0 (words w (shift _⊙_ f))) ≡ length (trimmed 0 (words w f))
+    bottom-keeps-length f =
+        trimmed-length (shift _⊙_ f) f
+        (ap (λ g. length (withoutTrailing 0 (words w g))) (Values.shift-rest _⊙_ f) ∙ shift-length _⊙_ right-zero (rest f))
+
+    pub top-keeps-length : (f : List ℕ) → length (trimmed 0 (words w (shiftFromTop _⊙_ f))) ≡ length (trimmed 0 (words w f))
+    top-keeps-length f =
+        trimmed-length (shiftFromTop _⊙_ f) f
+        (ap (λ g. length (withoutTrailing 0 (words w g))) (Values.from-top-rest _⊙_ f) ∙ from-top-length _⊙_ right-zero (rest f))
+
   pub plus-zero : (a b : ℕ) → b % 2 ^ w ≡ 0 → (a + b) % 2 ^ w ≡ a % 2 ^ w
   plus-zero a b e = sym (add-mod-mod a b (2 ^ w)) ∙ ap (λ z. (a + z) % 2 ^ w) e ∙ ap (λ z. z % 2 ^ w) (add-zero a)
 
   pub shift-keeps-length : (f : List ℕ) → length (trimmed 0 (words w (sumShift f))) ≡ length (trimmed 0 (words w f))
-  shift-keeps-length f =
-      trimmed-length (sumShift f) f (ap (λ g. length (withoutTrailing 0 (words w g))) (Values.shift-rest _+_ f) ∙ shift-length _+_ plus-zero (rest f))
+  shift-keeps-length f = bottom-keeps-length _+_ plus-zero f

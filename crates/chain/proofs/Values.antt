@@ -3,7 +3,7 @@
 use mathlib.Core.Path.{_≡_, refl, sym, ap, ap₂, _∙_}
 use mathlib.Core.List.{List, [], _∷_, map}
 use Prim.Native.Nat.{ℕ, zero, suc, _%_}
-use Rattle.chain.specs.Chain.{value, rest, shift, shifted, valueAt, joined}
+use Rattle.chain.specs.Chain.{value, rest, shift, meeting, shiftFromTop, shifted, valueAt, joined}
 
 pub rest-map : (h : ℕ → ℕ) (f : List ℕ) → rest (map h f) ≡ map h (rest f)
 rest-map h [] = refl
@@ -18,6 +18,15 @@ unfolding shift
 shift-rest _⊙_ [] = refl
 shift-rest _⊙_ (a ∷ []) = refl
 shift-rest _⊙_ (a ∷ b ∷ f) = refl
+
+pub from-top-rest : (_⊙_ : ℕ → ℕ → ℕ) (f : List ℕ) → rest (shiftFromTop _⊙_ f) ≡ shiftFromTop _⊙_ (rest f)
+unfolding shiftFromTop meeting
+from-top-rest _⊙_ [] = refl
+from-top-rest _⊙_ (a ∷ f) = go (shiftFromTop _⊙_ f)
+  where
+    go : (g : List ℕ) → rest (meeting _⊙_ a g) ≡ g
+    go [] = refl
+    go (b ∷ g) = refl
 
 module _ (_⊙_ : ℕ → ℕ → ℕ) (unit : ℕ) (right-unit : (a : ℕ) → _⊙_ a unit ≡ a) where
   pub shift-value : (f : List ℕ) → value unit (shift _⊙_ f) ≡ _⊙_ (value unit f) (value unit (rest f))
