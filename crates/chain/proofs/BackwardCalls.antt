@@ -238,6 +238,20 @@ module _ (w : ℕ) (f : List ℕ) (k : ℕ) (long : length f ≡ 17) (fits : (i 
       (to-forward-length w c ∙ ap (λ c. length (trimmed 0 c)) as-words)
       (backward-again w c ∙ as-words)
 
+  -- A conversion that keeps the trimmed length answers it.
+  keeps-length : (there : List ℕ → List ℕ) → length (trimmed 0 (there c)) ≡ length (trimmed 0 c) → answered (changed there f k) .length ≡ answered (trimOutcome f k) .length
+  keeps-length there trims =
+      ap (λ o. answered (cond o (refused 14) (chain (trimmed 0 (there c)))) .length) (le-ltb 16 k short)
+      ∙ ap (λ n. n - 1) (trims ∙ ap length (trimmed-twice 0 (take (k + 1) f)))
+      ∙ sym (ap (λ o. answered (cond o (refused 14) (chain c)) .length) (le-ltb 16 k short))
+
+  pub to-backward-call-length : answered (toBackwardOutcome w f k) .length ≡ answered (trimOutcome f k) .length
+  to-backward-call-length =
+      keeps-length (toBackward w) (subst (λ c. length (trimmed 0 (toBackward w c)) ≡ length (trimmed 0 c)) as-words (to-backward-length w c))
+
+  pub to-forward-call-length : answered (toForwardOutcome w f k) .length ≡ answered (trimOutcome f k) .length
+  to-forward-call-length = keeps-length (λ c. words w (toForward c)) (to-forward-length w c ∙ ap (λ c. length (trimmed 0 c)) as-words)
+
   -- ---- "shift and inverse shift cancel in either order", as calls, for both kinds
   pub shift-call-undone : inverseShiftOutcome w (answered (shiftOutcome w f k) .elements) (answered (shiftOutcome w f k) .length) ≡ trimOutcome f k
   shift-call-undone =
@@ -266,11 +280,3 @@ module _ (w : ℕ) (f : List ℕ) (k : ℕ) (long : length f ≡ 17) (fits : (i 
       round (BackwardChain.inverseShift w) (λ c. words w (BackwardChain.shift c)) (length-shift (Word.difference w) c)
       (trims-words (BackwardChain.inverseShift w) (backward-inverse-words w) (bottom-keeps-length w (Word.difference w) (difference-zero w)))
       (backward-shift-unshift w c ∙ as-words)
-
--- The chain that an accepted call's answer holds, as the next call is given it.
-pub changed-held : (f : List ℕ) (k : ℕ) (change : List ℕ → List ℕ) → length f ≡ 17 → k ≤ 16 → length (change (given f k)) ≡ length (given f k)
-    → given (answered (changed change f k) .elements) (answered (changed change f k) .length) ≡ trimmed 0 (change (given f k))
-changed-held f k change long short keeps =
-    ap (λ o. given (answered o .elements) (answered o .length)) (ap (λ o. cond o (refused 14) (chain (trimmed 0 (change (given f k))))) (le-ltb 16 k short))
-    ∙ given-answer (trimmed 0 (change (given f k))) (trimmed-twice 0 (change (given f k)))
-    (length-trimmed 0 (change (given f k)) 16 (omega (arith, keeps, length-given f k long)))
