@@ -248,7 +248,7 @@ module _ (w : ℕ) where
 
   pub product-by-signs : (f : List ℕ) (k : ℕ) (g : List ℕ) (l : ℕ) → length f ≡ 17 → length g ≡ 17
       → ((i : ℕ) → getD f i 0 < 2 ^ w) → ((i : ℕ) → getD g i 0 < 2 ^ w) → {p q e : List ℕ} {r : ChainAnswer}
-      → p ≡ flip f → q ≡ flip g → r ≡ answered (productOutcome w p k q l) → e ≡ flip (r .elements)
+      → p ≡ words w (alternated w f) → q ≡ words w (alternated w g) → r ≡ answered (productOutcome w p k q l) → e ≡ words w (alternated w (r .elements))
       → record { number = r .number; place = r .place; length = r .length; elements = e } ≡ answered (backwardProductOutcome w f k g l)
   unfolding flipped
   product-by-signs f k g l f-long g-long f-fits g-fits {p} {q} {e} {r} from-f from-g product signs =
