@@ -135,3 +135,20 @@ fn the_chains_of_the_paper() {
     let t2 = plus(times(four_t1, plus(four_t1, x)), times(chain(&[-1]), fourth_power));
     assert_eq!(t2, chain(&[0, 16, -192, 240]));
 }
+
+/// The numbers of examples/README.md.
+#[test]
+fn the_example() {
+    let (mut cubes, mut forward_cubes) = (chain(&[0, 1, -6, 6]), chain(&[0, 1, 6, 6]).words);
+    for (backward, forward) in [([-1, 7, -12, 6], [-1, 1, 0, 6]), ([-8, 19, -18, 6], [-8, 7, -6, 6]), ([-27, 37, -24, 6], [-27, 19, -12, 6])] {
+        cubes = backward_inverse_shift(&cubes.words, 3).expect("accepted");
+        forward_cubes = inverse_shift(&forward_cubes, 3).expect("accepted").words;
+        assert_eq!((cubes, forward_cubes), (chain(&backward), chain(&forward).words));
+    }
+    let mut words = [0; 17];
+    words[..3].copy_from_slice(&[17195715895335321600, 274877972480, 131072]);
+    let mut stamps = to_backward(&words, 2).expect("accepted");
+    assert_eq!(stamps.elements(), [17195715895335321600, 274877841408, 131072]);
+    stamps = backward_inverse_shift(&stamps.words, 2).expect("accepted");
+    assert_eq!(stamps.elements(), [17195715620457480192, 274877710336, 131072]);
+}
