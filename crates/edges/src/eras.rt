@@ -21,7 +21,7 @@ pub fn turn(name: &[u8], body: &[u8]) {
 
 // Fills the lent words, and answers the points written: number place points spent sum.
 fn count(plan: &mut [u64], table: &mut [u64], budget: u64) -> usize {
-    let answer = plan_fill::eras::fill_eras(plan, table, budget);
+    let answer = plan_eras::fill_eras(plan, table, budget);
     print::text(b"\teras ");
     print::number(answer.number);
     print::label(print::BLANK);

@@ -15,7 +15,7 @@ ghost use Rattle.plan.specs.Measures.{mostRows};
 const ROW_END: usize = 1 + ROW_WORDS;
 
 pub fn cost(plan: &[u64]) -> plan::CostAnswer {
-    plan_fill::cost(plan)
+    plan_costs::cost(plan)
 }
 
 pub fn filled(plan: &mut [u64], table: &mut [u64], budget: u64) -> plan::FillAnswer {

@@ -1,5 +1,5 @@
 // Whether a plan is sound, row by row, for callers. Any words may be lent.
-// What is asked of one row is in `plan_sound::row_checks`; what a sound plan costs and fills is in `plan_fill`.
+// What is asked of one row is in `plan_sound::row_checks`; what a sound plan costs and fills is in `plan_costs` and the crates above it.
 mod row_checks;
 
 use crate::row_checks::all_zero;

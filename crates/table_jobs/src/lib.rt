@@ -21,7 +21,7 @@ fn print_plan(n: u64, plan: &mut [u64], table: &mut [u64], out: &mut [u8]) -> us
     ensures { λ _. ⌜ now (plan .exit) ≡ planAfter 64 (length (now (table .entry))) (now (plan .entry)) ⌝ }
     ensures { λ _. ⌜ now (table .exit) ≡ pointValues 64 (length (now (table .entry))) (now (plan .entry)) ⌝ }
 {
-    let cost = plan_fill::cost(plan);
+    let cost = plan_costs::cost(plan);
     let at = job_lines::write_job_line(out, n, plan[0], cost.cost);
     plan_fill::fill(plan, table, u64::MAX);
     job_lines::write_points(out, at, table)
