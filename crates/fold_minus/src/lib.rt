@@ -1,5 +1,5 @@
 // Minus of an operand that stands at the top of a lent plan.
-// Sums and differences are at the root of the crate.
+// Sums and differences are in `fold_sums`; which operator a node is, is decided in `compile`.
 use fold_operands::append;
 use fold_operands::kind;
 use fold_operands::length_of;

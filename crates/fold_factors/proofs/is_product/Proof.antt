@@ -2,8 +2,8 @@
 use mathlib.Core.Path.{sym, _∙_}
 use borrow.Author.Tests.{eq-eqb, ne-eqb}
 use borrow.Author.Needs.{needs}
-use Rattle.fold_products.proofs.is_product.Statement.{statement}
-use Rattle.fold_products.proofs.is_product.Tie as tie
+use Rattle.fold_factors.proofs.is_product.Statement.{statement}
+use Rattle.fold_factors.proofs.is_product.Tie as tie
 
 kind-requires : tie.Need-kind-requires
 kind-requires c κs = search needs

@@ -3,11 +3,11 @@ use mathlib.Core.Path.{_∙_}
 use native.Mathlib.Omega.{arith}
 use Rattle.chain_arrays.proofs.Paired.{raises-by-word}
 use Rattle.fold_operands.proofs.OperandLaws.{operands-some}
-use Rattle.fold_operands.proofs.Leaving.{room-of-both}
-use Rattle.fold_powers.proofs.PowerOperands.{raise-folded, raise-as-row, either-way}
+use Rattle.fold_operands.proofs.Leaving.{room-of-both, either-way}
+use Rattle.fold_raises.proofs.RaiseOperands.{raise-folded, raise-as-row}
 use borrow.Author.Needs.{needs}
-use Rattle.fold_powers.proofs.fold_raise.Statement.{statement}
-use Rattle.fold_powers.proofs.fold_raise.Tie as tie
+use Rattle.fold_raises.proofs.fold_raise.Statement.{statement}
+use Rattle.fold_raises.proofs.fold_raise.Tie as tie
 
 sub-base-root : tie.Need-sub-base-root
 sub-base-root c = omega (arith, operands-some (c .before .pre .1 .1 .2))

@@ -4,8 +4,8 @@ use Prim.Native.Nat.{_+_}
 use lib.ListN.{take}
 use Rattle.fold_rows.specs.Standing.{filledWithOnes}
 use borrow.Author.Needs.{needs}
-use Rattle.fold_products.proofs.filled.Statement.{statement}
-use Rattle.fold_products.proofs.filled.Tie as tie
+use Rattle.fold_factors.proofs.filled.Statement.{statement}
+use Rattle.fold_factors.proofs.filled.Tie as tie
 
 length-of-requires : tie.Need-length-of-requires
 length-of-requires c κs = search needs

@@ -1,11 +1,11 @@
 -- `are_sums` tests the kinds of two rows, and whether their lengths add to 16 at most.
-use Rattle.fold_products.proofs.ProductRules.{sums-over, sums-within}
+use Rattle.fold_factors.proofs.SumLengths.{sums-over, sums-within}
 use mathlib.Core.Path.{sym}
 use native.Mathlib.Omega.{arith}
 use borrow.Author.Tests.{lt-ltb, le-ltb}
 use borrow.Author.Needs.{needs}
-use Rattle.fold_products.proofs.are_sums.Statement.{statement}
-use Rattle.fold_products.proofs.are_sums.Tie as tie
+use Rattle.fold_factors.proofs.are_sums.Statement.{statement}
+use Rattle.fold_factors.proofs.are_sums.Tie as tie
 
 kind-requires : tie.Need-kind-requires
 kind-requires c κs = search needs

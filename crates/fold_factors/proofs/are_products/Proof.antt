@@ -1,8 +1,8 @@
 -- `are_products` tests the kinds of two rows.
 use mathlib.Core.Path.{sym}
 use borrow.Author.Needs.{needs}
-use Rattle.fold_products.proofs.are_products.Statement.{statement}
-use Rattle.fold_products.proofs.are_products.Tie as tie
+use Rattle.fold_factors.proofs.are_products.Statement.{statement}
+use Rattle.fold_factors.proofs.are_products.Tie as tie
 
 is-product-requires : tie.Need-is-product-requires
 is-product-requires c κs = search needs

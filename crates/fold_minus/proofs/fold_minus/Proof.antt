@@ -3,10 +3,10 @@ use native.Mathlib.Omega.{arith}
 use Rattle.word.proofs.Ring.{difference-found}
 use mathlib.Core.Path.{sym, _∙_}
 use Rattle.fold_operands.proofs.OperandLaws.{operand-some, operand-short}
-use Rattle.fold_sums.proofs.SumOperands.{leaves-negated, leaves-first-negated, leaves-minus}
+use Rattle.fold_minus.proofs.MinusOperands.{leaves-negated, leaves-first-negated, leaves-minus}
 use borrow.Author.Needs.{needs}
-use Rattle.fold_sums.proofs.minus.fold_minus.Statement.{statement}
-use Rattle.fold_sums.proofs.minus.fold_minus.Tie as tie
+use Rattle.fold_minus.proofs.fold_minus.Statement.{statement}
+use Rattle.fold_minus.proofs.fold_minus.Tie as tie
 
 sub-root : tie.Need-sub-root
 sub-root c = omega (arith, operand-some (c .before .pre .1 .1 .1))

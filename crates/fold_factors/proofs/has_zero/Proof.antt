@@ -3,8 +3,8 @@ use mathlib.Core.Path.{sym, ap, ap₂, _∙_}
 use mathlib.Core.Bool.{_||_}
 use Rattle.fold_operands.proofs.OperandLaws.{constantAt}
 use borrow.Author.Needs.{needs}
-use Rattle.fold_products.proofs.has_zero.Statement.{statement}
-use Rattle.fold_products.proofs.has_zero.Tie as tie
+use Rattle.fold_factors.proofs.has_zero.Statement.{statement}
+use Rattle.fold_factors.proofs.has_zero.Tie as tie
 
 is-constant-requires : tie.Need-is-constant-requires
 is-constant-requires c κs = search needs
