@@ -1,10 +1,10 @@
 // Crossings of an era's end: how a chain crosses in a shift, and fillings of a plan with era count.
 // Chains in postfix are read in `chains`; a plan's rows and other tokens in `plans`, which calls on this for the token e.
-use crate::chains;
 use crate::plans;
-use crate::print;
-use crate::probes;
-use crate::words;
+use edges_calls::chains;
+use edges_calls::probes;
+use edges_print as print;
+use edges_text::words;
 ghost use Prim.Native.Nat.{_≤_};
 ghost use lib.ListN.{length};
 

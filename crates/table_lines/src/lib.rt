@@ -3,7 +3,6 @@
 use plan::PLAN_WORDS;
 use table_fields::fields;
 use table_fields::line_checks;
-use table_jobs::job_lines;
 use table_progress::Awaited;
 use table_progress::LineDone;
 use table_progress::Progress;
@@ -49,7 +48,7 @@ fn end_header(line: &[u8], out: &mut [u8]) -> LineDone
             wrote: 0,
         };
     }
-    let wrote = job_lines::write_no_line(out, 0, 12, 0);
+    let wrote = table_job_lines::write_no_line(out, 0, 12, 0);
     LineDone {
         progress: ended(),
         wrote,
@@ -66,7 +65,7 @@ fn end_defaults(line: &[u8], defaults: &mut [u8], out: &mut [u8]) -> LineDone
 {
     let judged = line_checks::judge_defaults(line);
     if !judged.ok {
-        let wrote = job_lines::write_no_line(out, 0, 11, judged.place);
+        let wrote = table_job_lines::write_no_line(out, 0, 11, judged.place);
         return LineDone {
             progress: ended(),
             wrote,
@@ -164,8 +163,8 @@ pub fn end_input(awaited: Awaited, out: &mut [u8]) -> usize
     ensures { λ r. ⌜ ((n kept : ℕ) (buffer : List ℕ) → Wrote (now (out .entry)) 0 (endPrints (awaitedBy awaited n kept buffer)) r (now (out .exit))) ⌝ }
 {
     match awaited {
-        Awaited::Header => job_lines::write_no_line(out, 0, 12, 0),
-        Awaited::Defaults => job_lines::write_no_line(out, 0, 11, 0),
+        Awaited::Header => table_job_lines::write_no_line(out, 0, 12, 0),
+        Awaited::Defaults => table_job_lines::write_no_line(out, 0, 11, 0),
         Awaited::Job => 0,
         Awaited::Nothing => 0,
     }

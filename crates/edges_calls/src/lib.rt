@@ -1,0 +1,5 @@
+// Cases of single calls: chains, the probe, and a formula that is read.
+// Plans, compiled formulas and job files are in `edges`, and so is which line is a case of what.
+pub mod chains;
+pub mod formulas;
+pub mod probes;
