@@ -2,7 +2,6 @@
 // How lines are found in the input is for `table_steps`.
 use plan::PLAN_WORDS;
 use table_fields::fields;
-use table_fields::line_checks;
 use table_progress::Awaited;
 use table_progress::LineDone;
 use table_progress::Progress;
@@ -37,7 +36,7 @@ fn end_header(line: &[u8], out: &mut [u8]) -> LineDone
     ensures { λ r. ⌜ r .progress ≡ progressBy Header 0 0 (now (line .entry)) ⌝ }
     ensures { λ r. ⌜ Wrote (now (out .entry)) 0 (linePrints theHeader (now (line .entry))) (r .wrote) (now (out .exit)) ⌝ }
 {
-    if line_checks::is_header(line) {
+    if table_line_checks::is_header(line) {
         return LineDone {
             progress: Progress {
                 awaited: Awaited::Defaults,
@@ -63,7 +62,7 @@ fn end_defaults(line: &[u8], defaults: &mut [u8], out: &mut [u8]) -> LineDone
     ensures { λ r. ⌜ Wrote (now (out .entry)) 0 (linePrints theDefaults (now (line .entry))) (r .wrote) (now (out .exit)) ⌝ }
     ensures { λ _. ⌜ now (defaults .exit) ≡ defaultsAfter theDefaults (now (line .entry)) (now (defaults .entry)) ⌝ }
 {
-    let judged = line_checks::judge_defaults(line);
+    let judged = table_line_checks::judge_defaults(line);
     if !judged.ok {
         let wrote = table_job_lines::write_no_line(out, 0, 11, judged.place);
         return LineDone {
@@ -99,7 +98,7 @@ fn end_job<'a>(
     ensures { λ _. ⌜ now (plan .exit) ≡ planAfterLine (aJob (now (defaults .entry)) n) (now (line .entry)) (now (plan .entry)) ⌝ }
     ensures { λ _. ⌜ now (table .exit) ≡ tableAfterLine (aJob (now (defaults .entry)) n) (now (line .entry)) (now (table .entry)) ⌝ }
 {
-    let judged = line_checks::judge_job(line, defaults);
+    let judged = table_line_checks::judge_job(line, defaults);
     let formula = fields::pick(line, defaults, 1);
     table_jobs::print_job(
         n,
