@@ -2,6 +2,7 @@
 // The grammar is read in `formula_readers`; what a text is refused for is judged in `formula_read`.
 use formula_nodes::faults;
 use formula_nodes::stopped;
+use formula_packing::unpacked;
 use formula_scan::Found;
 ghost use mathlib.Core.Path.{_≡_};
 ghost use Prim.Native.Nat.{_≤_};
@@ -20,7 +21,7 @@ fn sum_from(text: &[u8], place: usize) -> Found
     ensures { λ r. ⌜ Scanned 64 (now (text .entry)) place r ⌝ }
 {
     let mut none = [0u64; 1];
-    formula_readers::read_sum(text, &mut none[0..0], place, 0, faults::NO_FAULT)
+    unpacked(formula_readers::read_sum(text, &mut none[0..0], place, 0, faults::NO_FAULT))
 }
 
 // What was found of a sum, if no byte is left from a place on; else no formula goes on past that place.

@@ -6,6 +6,8 @@ use formula::MOST_NODES;
 use formula::ReadAnswer;
 use formula::TREE_WORDS;
 use formula_nodes::faults;
+use formula_packing::unpacked;
+use formula_scan::PLACES;
 ghost use mathlib.Core.Path.{_≡_};
 ghost use mathlib.Core.Bool.{cond};
 ghost use mathlib.Core.List.{_++_};
@@ -56,8 +58,8 @@ fn judged(text: &[u8]) -> ReadAnswer
     let code = faults::lesser(whole.fault, nodes_fault(whole.nodes));
     if code < faults::NO_FAULT {
         return ReadAnswer {
-            number: code / faults::PLACES,
-            place: code % faults::PLACES,
+            number: code / PLACES,
+            place: code % PLACES,
         };
     }
     ReadAnswer {
@@ -72,7 +74,13 @@ fn write(text: &[u8], tree: &mut [u64])
     ensures { λ _. ⌜ ((t : Tree) → Accepted 64 (now (text .entry)) t → now (tree .exit) ≡ treeWords t ++ drop treeLength (now (tree .entry))) ⌝ }
 {
     word::clear(&mut tree[0..TREE_WORDS]);
-    let sum = formula_readers::read_sum(text, &mut tree[1..TREE_WORDS], 0, 0, faults::NO_FAULT);
+    let sum = unpacked(formula_readers::read_sum(
+        text,
+        &mut tree[1..TREE_WORDS],
+        0,
+        0,
+        faults::NO_FAULT,
+    ));
     tree[0] = sum.nodes as u64;
 }
 
