@@ -9,7 +9,7 @@ ghost use Rattle.formula_scan.specs.Packing.{mark, unpacked, Packable};
 // Above the code of any fault.
 const FAULT_CODES: u64 = 32768;
 
-// The marks of what is found are below this.
+// Above what three marks make.
 const MARKS: u64 = 8;
 
 // A mark as a digit.

@@ -1,20 +1,24 @@
 -- What fits the packed word: a stop, since the scan stops inside the text, and what is found of a text that packs.
 use mathlib.Core.Path.{_≡_, refl, sym, ap, ap₂, subst, _∙_}
-use mathlib.Core.Bool.{Bool, true, false, cond}
+use mathlib.Core.Bool.{Bool, true, false}
 use mathlib.Core.List.{List, [], _∷_}
 use Prim.Native.Nat.{ℕ, suc, _+_, _*_, _/_, _%_, _≤_, _<_, min}
 use native.Mathlib.Omega.{arith}
-use lib.Dec.{eqb}
+use lib.Dec.{eqb, ltb}
 use lib.ListN.{length, drop, length-drop}
+use borrow.Author.Tests.{ltb-true, ltb-false}
 use Rattle.formula_scan.specs.declared.Found.{Found}
+use Rattle.formula.specs.declared.ReadAnswer.{ReadAnswer}
+use Rattle.formula.specs.Refusals.{too-long}
 use Rattle.formula.specs.Tree.{Tree, number, variable, sum, difference, product, minus, literalPower, raise, holdsX}
-use Rattle.formula_scan.specs.Scan.{Byte, plusByte, minusByte, starByte, caretByte, openByte, closeByte, xByte, zeroByte, digitByte, otherByte, byteOf, noSum, Level, level, Outer, bottom, inBrackets, inExponent, State, operand, inNumber, atomed, afterCaret, inLiteral, powered, stopped, closed, afterPower, afterAtom, afterDigit, afterLiteralDigit, beforeOperand, beforeExponent, step, Outcome, reads, stops, ended, ending, run}
-use Rattle.formula_scan.specs.Readers.{faultPlaces, parity, baseFault, faulted, noFault, stopping, finding, fails, gets, SumRead, ProductRead}
-use Rattle.formula_scan.specs.Packing.{faultCodes, mark, unpacked, Packable, Packs}
+use Rattle.formula_scan.specs.Scan.{Byte, plusByte, minusByte, starByte, caretByte, openByte, closeByte, xByte, zeroByte, digitByte, otherByte, byteOf, noSum, Level, level, Outer, bottom, inBrackets, inExponent, State, operand, inNumber, atomed, afterCaret, inLiteral, powered, stopped, closed, afterPower, afterAtom, afterDigit, afterLiteralDigit, beforeOperand, beforeExponent, step, reads, stops, ended, ending, run}
+use Rattle.formula_scan.specs.Readers.{faultPlaces, parity, baseFault, faulted, stopping, fails, SumRead, ProductRead, Judged, refuses, accepts}
+use Rattle.formula_scan.specs.Packing.{faultCodes, marks, mark, unpacked, Packable, Packs}
+use Rattle.formula_scan.proofs.Judging.{fault-number}
 use Rattle.formula_scan.proofs.Ways.{Got, lost, got-odd, got-few, ProductSoFar, SumSoFar}
 
 -- ---- the scan stops inside the text
--- A stop is not after the place `at`.
+-- Where the scan has stopped, it did so at the place `at` at the latest.
 unfoldable Past : ℕ → State → Type 0
 Past at (operand lv) = Unit {0}
 Past at (inNumber lv p v) = Unit {0}
@@ -24,6 +28,7 @@ Past at (inLiteral lv t p n) = Unit {0}
 Past at (powered lv t) = Unit {0}
 Past at (stopped p) = p ≤ at
 
+-- Two stops are one place, and a stop is no tree.
 same : {p q : ℕ} → stops p ≡ stops q → q ≤ p
 same {p} {q} e = let alike : p ≡ q = cc in omega arith
 
@@ -164,7 +169,7 @@ mark-read false n e = ap (λ k. eqb k 1) e
 
 -- The word made of the fields of what is found gives them back.
 pub unpacked-packed : (f : Found) (word : ℕ) → Packable f
-    → word ≡ ((f .nodes * faultCodes + f .fault) * faultPlaces + f .at) * 8 + (mark (f .ok) + 2 * mark (f .variable) + 4 * f .odd)
+    → word ≡ ((f .nodes * faultCodes + f .fault) * faultPlaces + f .at) * marks + (mark (f .ok) + 2 * mark (f .variable) + 4 * f .odd)
     → unpacked word ≡ f
 unpacked-packed f word packs e =
     let tree = mark-small (f .ok) in
@@ -196,7 +201,7 @@ module _ {w : ℕ} {l : List ℕ} {at n f : ℕ} {out now : List ℕ} where
 
 -- A stop packs, since its place is inside the text.
 module _ {w : ℕ} {l : List ℕ} {at n f : ℕ} {out : List ℕ} {r : Found} {now : List ℕ} where
-  pub stop-packs : ProductRead w l at n f out r now → r .ok ≡ false → at ≤ length l → length l < 2048 → Packable (stopping (r .at))
+  pub stop-packs : ProductRead w l at n f out r now → r .ok ≡ false → at ≤ length l → length l < faultPlaces → Packable (stopping (r .at))
   unfolding Past
   stop-packs read none inside short = record {
     odd-packs = omega arith;
@@ -225,3 +230,12 @@ module _ {w : ℕ} {C : Type 0} {from : C → State} {to : C → Tree → State}
     nodes-pack = omega (arith, got-few g few, g .inside, packs .0);
     fault-packs = omega (arith, got-fault, packs .1);
   }
+
+-- A text for which no refusal is found packs.
+pub judged-packs : {w : ℕ} (l : List ℕ) (answer : ReadAnswer) → Judged w l answer → answer .number ≡ 0 → length l < faultPlaces
+judged-packs l _ (refuses r) none = absurd (omega (arith, fault-number (r .applies)))
+judged-packs {w} l _ (accepts a) none = go (ltb 1024 (length l)) refl
+  where
+    go : (b : Bool) → ltb 1024 (length l) ≡ b → length l < faultPlaces
+    go true e = absurd (a .faultless 2 1024 (too-long (ltb-true 1024 (length l) e)))
+    go false e = omega (arith, ltb-false 1024 (length l) e)

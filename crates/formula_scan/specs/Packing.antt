@@ -12,6 +12,10 @@ use Rattle.formula_scan.specs.Readers.{faultPlaces, noFault}
 abbrev pub faultCodes : ℕ
 faultCodes = 32768
 
+-- Above what three marks make.
+abbrev pub marks : ℕ
+marks = 8
+
 -- A mark as a digit.
 abbrev pub mark : Bool → ℕ
 mark b = cond b 1 0
@@ -22,9 +26,9 @@ unpacked word = record {
   ok = eqb (word % 2) 1;
   variable = eqb (word / 2 % 2) 1;
   odd = word / 4 % 2;
-  at = word / 8 % faultPlaces;
-  nodes = word / 8 / faultPlaces / faultCodes;
-  fault = word / 8 / faultPlaces % faultCodes;
+  at = word / marks % faultPlaces;
+  nodes = word / marks / faultPlaces / faultCodes;
+  fault = word / marks / faultPlaces % faultCodes;
 }
 
 -- What is found fits one word.

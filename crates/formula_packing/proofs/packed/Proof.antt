@@ -1,5 +1,4 @@
 -- `packed` puts the fields one above the other, and the word gives them back.
-use mathlib.Core.Path.{_≡_}
 use native.Mathlib.Omega.{arith}
 use Rattle.formula_scan.proofs.Packing.{unpacked-packed}
 use borrow.Author.Needs.{needs}
