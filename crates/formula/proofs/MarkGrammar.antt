@@ -1,0 +1,37 @@
+-- The grammar over marks, bytes with their places, beside that of specs/Grammar.antt, over a text and the place where it stands.
+use mathlib.Core.List.{List, [], _∷_, _++_}
+use Prim.Native.Nat.{ℕ}
+use Rattle.formula.specs.Bytes.{openBracket, closeBracket, star, plusSign, minusSign, caret, letterX}
+use Rattle.formula.specs.Marks.{Mark, mark, marked}
+use Rattle.formula.specs.Tree.{Tree, number, variable, sum, difference, product, minus, literalPower, raise}
+use Rattle.formula.specs.Grammar.{Number, Sort, aSum, aProduct, aFactor, aPower, anAtom}
+
+-- `Means sort marks tree`: the marks are of that sort and mean that tree. A number knows the place of its first digit, and its digits stand side by
+-- side; a power knows the place of its ^.
+pub data Means : Sort → List Mark → Tree → Type 0 where
+  -- "A sum is products joined by + or -, left to right."
+  one-product : {s : List Mark} {t : Tree} → Means aProduct s t → Means aSum s t
+  joined-by-plus : (p : ℕ) {s r : List Mark} {t u : Tree} → Means aSum s t → Means aProduct r u → Means aSum (s ++ mark p plusSign ∷ r) (sum t u)
+  joined-by-minus : (p : ℕ) {s r : List Mark} {t u : Tree} → Means aSum s t → Means aProduct r u
+      → Means aSum (s ++ mark p minusSign ∷ r) (difference t u)
+  -- "A product is factors joined by *, left to right."
+  one-factor : {s : List Mark} {t : Tree} → Means aFactor s t → Means aProduct s t
+  joined-by-star : (p : ℕ) {s r : List Mark} {t u : Tree} → Means aProduct s t → Means aFactor r u → Means aProduct (s ++ mark p star ∷ r) (product t u)
+  -- "A factor is any number of leading minus signs, then a power."
+  a-power : {s : List Mark} {t : Tree} → Means aPower s t → Means aFactor s t
+  leading-minus : {p : ℕ} {s : List Mark} {t : Tree} → Means aFactor s t → Means aFactor (mark p minusSign ∷ s) (minus t)
+  -- "A power is an atom, perhaps followed by one ^ and an exponent. An exponent is a number, or a sum in round brackets."
+  an-atom : {s : List Mark} {t : Tree} → Means anAtom s t → Means aPower s t
+  to-a-number : (p first : ℕ) {s : List Mark} {ds : List ℕ} {t : Tree} {n : ℕ} → Means anAtom s t → Number ds n
+      → Means aPower (s ++ mark p caret ∷ marked first ds) (literalPower t p n)
+  to-a-sum : (p opens closes : ℕ) {s r : List Mark} {t u : Tree} → Means anAtom s t → Means aSum r u
+      → Means aPower (s ++ mark p caret ∷ mark opens openBracket ∷ r ++ mark closes closeBracket ∷ []) (raise t p u)
+  -- "An atom is a number, x, or a sum in round brackets."
+  a-number : {p : ℕ} {ds : List ℕ} {v : ℕ} → Number ds v → Means anAtom (marked p ds) (number p v)
+  an-x : {p : ℕ} → Means anAtom (mark p letterX ∷ []) variable
+  in-brackets : {opens : ℕ} (closes : ℕ) {s : List Mark} {t : Tree} → Means aSum s t
+      → Means anAtom (mark opens openBracket ∷ s ++ mark closes closeBracket ∷ []) t
+
+-- A grammar text, and its tree: a sum whose first byte stands at place 0.
+pub record Formula (s : List ℕ) (t : Tree) : Type 0 where
+  pub a-sum : Means aSum (marked 0 s) t
