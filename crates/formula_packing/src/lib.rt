@@ -4,17 +4,17 @@ use formula_scan::Found;
 use formula_scan::PLACES;
 ghost use mathlib.Core.Path.{_≡_};
 ghost use Prim.Native.Nat.{_<_};
-ghost use Rattle.formula_scan.specs.Packing.{mark, unpacked, Packable};
+ghost use Rattle.formula_scan.specs.Packing.{flag, unpacked, Packable};
 
 // Above the code of any fault.
 const FAULT_CODES: u64 = 32768;
 
-// Above what three marks make.
-const MARKS: u64 = 8;
+// Above what three flags make.
+const FLAGS: u64 = 8;
 
-// A mark as a digit.
-fn mark(is: bool) -> u64
-    ensures { λ r. ⌜ r ≡ mark is ⌝ }
+// A flag as a digit.
+fn flag(is: bool) -> u64
+    ensures { λ r. ⌜ r ≡ flag is ⌝ }
     ensures { λ r. ⌜ r < 2 ⌝ }
 {
     if is {
@@ -28,17 +28,17 @@ pub fn packed(found: Found) -> u64
     requires { ⌜ Packable found ⌝ }
     ensures { λ r. ⌜ unpacked r ≡ found ⌝ }
 {
-    let marks = mark(found.ok) + 2 * mark(found.variable) + 4 * found.odd as u64;
+    let flags = flag(found.ok) + 2 * flag(found.variable) + 4 * found.odd as u64;
     let counted = found.nodes as u64 * FAULT_CODES + found.fault;
     let placed = counted * PLACES + found.at as u64;
-    placed * MARKS + marks
+    placed * FLAGS + flags
 }
 
 // What is found, from its word.
 pub fn unpacked(word: u64) -> Found
     ensures { λ r. ⌜ r ≡ unpacked word ⌝ }
 {
-    let placed = word / MARKS;
+    let placed = word / FLAGS;
     let counted = placed / PLACES;
     Found {
         ok: word % 2 == 1,

@@ -13,7 +13,7 @@ use Rattle.formula.specs.Refusals.{too-long}
 use Rattle.formula.specs.Tree.{Tree, number, variable, sum, difference, product, minus, literalPower, raise, holdsX}
 use Rattle.formula_scan.specs.Scan.{Byte, plusByte, minusByte, starByte, caretByte, openByte, closeByte, xByte, zeroByte, digitByte, otherByte, byteOf, noSum, Level, level, Outer, bottom, inBrackets, inExponent, State, operand, inNumber, atomed, afterCaret, inLiteral, powered, stopped, closed, afterPower, afterAtom, afterDigit, afterLiteralDigit, beforeOperand, beforeExponent, step, reads, stops, ended, ending, run}
 use Rattle.formula_scan.specs.Readers.{faultPlaces, parity, baseFault, faulted, stopping, fails, SumRead, ProductRead, Judged, refuses, accepts}
-use Rattle.formula_scan.specs.Packing.{faultCodes, marks, mark, unpacked, Packable, Packs}
+use Rattle.formula_scan.specs.Packing.{faultCodes, flags, flag, unpacked, Packable, Packs}
 use Rattle.formula_scan.proofs.Judging.{fault-number}
 use Rattle.formula_scan.proofs.Ways.{Got, lost, got-odd, got-few, ProductSoFar, SumSoFar}
 
@@ -159,22 +159,22 @@ same-found {f} {g} a b c d e h =
     ∙ ap₂ (λ x y. record { ok = g .ok; variable = g .variable; odd = x; at = y; nodes = f .nodes; fault = f .fault }) c d
     ∙ ap₂ (λ x y. record { ok = g .ok; variable = g .variable; odd = g .odd; at = g .at; nodes = x; fault = y }) e h
 
-mark-small : (b : Bool) → mark b < 2
-mark-small true = omega arith
-mark-small false = omega arith
+flag-small : (b : Bool) → flag b < 2
+flag-small true = omega arith
+flag-small false = omega arith
 
-mark-read : (b : Bool) (n : ℕ) → n ≡ mark b → eqb n 1 ≡ b
-mark-read true n e = ap (λ k. eqb k 1) e
-mark-read false n e = ap (λ k. eqb k 1) e
+flag-read : (b : Bool) (n : ℕ) → n ≡ flag b → eqb n 1 ≡ b
+flag-read true n e = ap (λ k. eqb k 1) e
+flag-read false n e = ap (λ k. eqb k 1) e
 
 -- The word made of the fields of what is found gives them back.
 pub unpacked-packed : (f : Found) (word : ℕ) → Packable f
-    → word ≡ ((f .nodes * faultCodes + f .fault) * faultPlaces + f .at) * marks + (mark (f .ok) + 2 * mark (f .variable) + 4 * f .odd)
+    → word ≡ ((f .nodes * faultCodes + f .fault) * faultPlaces + f .at) * flags + (flag (f .ok) + 2 * flag (f .variable) + 4 * f .odd)
     → unpacked word ≡ f
 unpacked-packed f word packs e =
-    let tree = mark-small (f .ok) in
-    let letter = mark-small (f .variable) in
-    same-found (mark-read (f .ok) (word % 2) (omega arith)) (mark-read (f .variable) (word / 2 % 2) (omega arith)) (omega arith) (omega arith) (omega arith) (omega arith)
+    let tree = flag-small (f .ok) in
+    let letter = flag-small (f .variable) in
+    same-found (flag-read (f .ok) (word % 2) (omega arith)) (flag-read (f .variable) (word / 2 % 2) (omega arith)) (omega arith) (omega arith) (omega arith) (omega arith)
 
 -- No fault is added by a tree that is above the least one before it.
 faulted-least : (w : ℕ) (t : Tree) (f : ℕ) → faulted w t f ≤ f

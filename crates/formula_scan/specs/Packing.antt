@@ -1,4 +1,4 @@
--- What a reader found, read off one word: the nodes, the fault, the place and three marks, each in digits of its own.
+-- What a reader found, read off one word: the nodes, the fault, the place and three flags, each in digits of its own.
 -- The word travels in a register where the struct would travel over the stack. Nobody has to believe this page.
 use mathlib.Core.Bool.{Bool, cond}
 use mathlib.Core.List.{List}
@@ -12,13 +12,13 @@ use Rattle.formula_scan.specs.Readers.{faultPlaces, noFault}
 abbrev pub faultCodes : ℕ
 faultCodes = 32768
 
--- Above what three marks make.
-abbrev pub marks : ℕ
-marks = 8
+-- Above what three flags make.
+abbrev pub flags : ℕ
+flags = 8
 
--- A mark as a digit.
-abbrev pub mark : Bool → ℕ
-mark b = cond b 1 0
+-- A flag as a digit.
+abbrev pub flag : Bool → ℕ
+flag b = cond b 1 0
 
 -- From the lowest digit on: whether there is a tree, whether x stands in it, its oddness, the place, the fault, the nodes.
 abbrev pub unpacked : ℕ → Found
@@ -26,9 +26,9 @@ unpacked word = record {
   ok = eqb (word % 2) 1;
   variable = eqb (word / 2 % 2) 1;
   odd = word / 4 % 2;
-  at = word / marks % faultPlaces;
-  nodes = word / marks / faultPlaces / faultCodes;
-  fault = word / marks / faultPlaces % faultCodes;
+  at = word / flags % faultPlaces;
+  nodes = word / flags / faultPlaces / faultCodes;
+  fault = word / flags / faultPlaces % faultCodes;
 }
 
 -- What is found fits one word.

@@ -5,26 +5,26 @@ use borrow.Author.Needs.{needs}
 use Rattle.formula_packing.proofs.packed.Statement.{statement}
 use Rattle.formula_packing.proofs.packed.Tie as tie
 
-mark-requires : tie.Need-mark-requires
-mark-requires c κs = search needs
+flag-requires : tie.Need-flag-requires
+flag-requires c κs = search needs
 
-mark-requires-2 : tie.Need-mark-requires-2
-mark-requires-2 c κs = search needs
+flag-requires-2 : tie.Need-flag-requires-2
+flag-requires-2 c κs = search needs
 
-mul-marks : tie.Need-mul-marks
-mul-marks c = search needs
+mul-flags : tie.Need-mul-flags
+mul-flags c = search needs
 
-add-marks : tie.Need-add-marks
-add-marks c = search needs
+add-flags : tie.Need-add-flags
+add-flags c = search needs
 
-cast-marks : tie.Need-cast-marks
-cast-marks c = search needs
+cast-flags : tie.Need-cast-flags
+cast-flags c = search needs
 
-mul-marks-2 : tie.Need-mul-marks-2
-mul-marks-2 c = search needs
+mul-flags-2 : tie.Need-mul-flags-2
+mul-flags-2 c = search needs
 
-add-marks-2 : tie.Need-add-marks-2
-add-marks-2 c = search needs
+add-flags-2 : tie.Need-add-flags-2
+add-flags-2 c = search needs
 
 mul-counted : tie.Need-mul-counted
 mul-counted c = search needs
@@ -45,19 +45,19 @@ add-result : tie.Need-add-result
 add-result c = search needs
 
 returns : tie.Need-returns
-returns c = unpacked-packed (c .before .before .before .before .args .found) _ (c .before .before .before .before .pre) (omega (arith, (c .before .before .before .mark .ensures), (c .before .before .mark2 .ensures)))
+returns c = unpacked-packed (c .before .before .before .before .args .found) _ (c .before .before .before .before .pre) (omega (arith, (c .before .before .before .flag .ensures), (c .before .before .flag2 .ensures)))
 
 pub packed-spec : {M : Type 1} → statement M
 packed-spec =
     tie.close
     (tie.spec
-    mark-requires
-    mark-requires-2
-    mul-marks
-    add-marks
-    cast-marks
-    mul-marks-2
-    add-marks-2
+    flag-requires
+    flag-requires-2
+    mul-flags
+    add-flags
+    cast-flags
+    mul-flags-2
+    add-flags-2
     mul-counted
     add-counted
     mul-placed
