@@ -133,6 +133,36 @@ void otterchime_product(const uint64_t f[OTTERCHIME_CHAIN_WORDS], uint64_t k, co
 /* The chain of the polynomial a0 + a1 * i + a2 * i^2 + .. in the index i. No coefficients are the constant 0. Refusal 13 for over 17. */
 void otterchime_from_coefficients(const uint64_t *coefficients, size_t count, uint64_t answer[OTTERCHIME_CHAIN_ANSWER]);
 
+/* ---- tables that run backwards ----
+ * A backward sum chain is given and answered as a forward one is. Element j + 1 of a forward chain is what element j gains up to the next
+ * index; of a backward chain, what it has gained since the index before: i^3 is 0, 1, 6, 6 as a forward chain and 0, 1, -6, 6 as a backward
+ * one. Shift and inverse shift cancel in either order. Walked back by inverse shifts, a chain gives its words at the indices -1, -2 and so on. */
+
+/* f, a forward chain, one index back: from the top down, each element but the last less its neighbour's new value. Refusal 14. */
+void otterchime_inverse_shift(const uint64_t f[OTTERCHIME_CHAIN_WORDS], uint64_t k, uint64_t answer[OTTERCHIME_CHAIN_ANSWER]);
+
+/* The value of f, a backward chain, at the present point.
+ * answer: number, place, the word (0 if refused). Refusal 14. */
+void otterchime_backward_value(const uint64_t f[OTTERCHIME_CHAIN_WORDS], uint64_t k, uint64_t answer[OTTERCHIME_VALUE_ANSWER]);
+
+/* f, a backward chain, after one shift: from the top down, each element but the last with its neighbour's new value added. Refusal 14. */
+void otterchime_backward_shift(const uint64_t f[OTTERCHIME_CHAIN_WORDS], uint64_t k, uint64_t answer[OTTERCHIME_CHAIN_ANSWER]);
+
+/* f, a backward chain, one index back: each element but the last less its neighbour. Refusal 14. */
+void otterchime_backward_inverse_shift(const uint64_t f[OTTERCHIME_CHAIN_WORDS], uint64_t k, uint64_t answer[OTTERCHIME_CHAIN_ANSWER]);
+
+/* f + g and f * g of backward chains, f of length k and g of length l. f and g may be the same words. Refusal 14 for either length; the
+ * product is refused 15 where the trimmed lengths add over 16. */
+void otterchime_backward_sum(const uint64_t f[OTTERCHIME_CHAIN_WORDS], uint64_t k, const uint64_t g[OTTERCHIME_CHAIN_WORDS], uint64_t l,
+                             uint64_t answer[OTTERCHIME_CHAIN_ANSWER]);
+void otterchime_backward_product(const uint64_t f[OTTERCHIME_CHAIN_WORDS], uint64_t k, const uint64_t g[OTTERCHIME_CHAIN_WORDS], uint64_t l,
+                                 uint64_t answer[OTTERCHIME_CHAIN_ANSWER]);
+
+/* The backward chain of a forward chain f, and the forward chain of a backward chain f: both give the same word at every index, before the
+ * present one too, and have the same trimmed length. There and back gives f trimmed. Refusal 14. */
+void otterchime_to_backward(const uint64_t f[OTTERCHIME_CHAIN_WORDS], uint64_t k, uint64_t answer[OTTERCHIME_CHAIN_ANSWER]);
+void otterchime_to_forward(const uint64_t f[OTTERCHIME_CHAIN_WORDS], uint64_t k, uint64_t answer[OTTERCHIME_CHAIN_ANSWER]);
+
 /* ---- the probe ---- */
 
 /* Holds a reading against what was expected. The offset is reading - expected modulo 2^64, read as a signed number; above the tolerance

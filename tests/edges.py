@@ -3,8 +3,10 @@
 
 Nothing here is taken from the library. A chain is a sequence of whole numbers: its value at index i is the sum of its
 elements times the binomials (i over j). Sums, differences and products are taken value by value at the indices 0 to 16,
-a shift begins one index later, and the elements are the repeated differences of the values, modulo 2^64. A polynomial
-is evaluated as it stands. The probe is a difference of whole numbers. A formula is read by Earley's method: the grammar
+a shift begins one index later, and the elements are the repeated differences of the values, modulo 2^64. The value of a
+backward chain at index i is the sum of its elements times (i + j - 1 over j), and its elements are the differences to
+the index before; for tables that run backwards i may be negative, and so may it for forward chains. A polynomial is
+evaluated as it stands. The probe is a difference of whole numbers. A formula is read by Earley's method: the grammar
 is a list of rules, and each place of the text has the set of the rules that can be under way there. Every refusal that
 applies is worked out, and the least one counts. A text that can't be printed or is long has a name in the notation of
 the program's input, {33:(} for 33 brackets and <10> for the byte 10. A plan is held to document 01's table line by
@@ -17,7 +19,7 @@ fields, and what each line prints. Its notation has > for a tab and / for a line
 import re
 from functools import cache
 from itertools import groupby, product as product_of, zip_longest
-from math import comb, prod
+from math import comb, factorial, prod
 
 WORD = 2**64
 HALF = 2**63
@@ -56,12 +58,13 @@ def values(f, first=0):
     return [at(f, i) for i in range(first, first + POINTS)]
 
 
-def elements(v):
-    """The trimmed chain that has these values: the differences of every order at the first point."""
+def elements(v, step=1):
+    """The trimmed chain that has these values: the differences of every order at the first point, from which the others
+    lie 1 index on each, or -1."""
     f = []
     while v:
         f.append(v[0] % WORD)
-        v = [b - a for a, b in zip(v, v[1:])]
+        v = [step * (b - a) for a, b in zip(v, v[1:])]
     while len(f) > 1 and f[-1] == 0:
         f.pop()
     return f
@@ -148,6 +151,76 @@ def probe(name, reading, expected, tolerance):
     offset = (reading - expected + HALF) % WORD - HALF
     verdict = "ahead" if offset > tolerance else "behind" if offset < -tolerance else "within"
     line(name, f"0 0 {offset} {verdict}")
+
+
+# ---- tables that run backwards
+
+def over(i, j):
+    """The binomial (i over j) of any whole number i."""
+    return prod(range(i - j + 1, i + 1)) // factorial(j)
+
+
+def forward_at(f, i):
+    """The value at index i, which may be negative, of the chain with elements f: document 000's equation 8."""
+    return sum(e * over(i, j) for j, e in enumerate(f))
+
+
+def backward_at(f, i):
+    """The same of the backward chain with elements f: equation 9."""
+    return sum(e * over(i + j - 1, j) for j, e in enumerate(f))
+
+
+def forward_elements(function):
+    return elements([function(i) for i in range(POINTS)])
+
+
+def backward_elements(function):
+    return elements([function(-i) for i in range(POINTS)], step=-1)
+
+
+# The calls that make one chain of one: how the answer's elements come from its values, how the given chain's values come
+# from its elements, and how much later the answer's values are taken.
+CHANGES = {
+    "inverse shift": (forward_elements, forward_at, -1),
+    "backward shift": (backward_elements, backward_at, 1),
+    "backward inverse shift": (backward_elements, backward_at, -1),
+    "to backward": (backward_elements, forward_at, 0),
+    "to forward": (forward_elements, backward_at, 0),
+}
+
+
+def change(call, name, f):
+    if too_long(f):
+        return refused(f"{call} {name}", 14)
+    elements_of, value_at, later = CHANGES[call]
+    chain(f"{call} {name}", elements_of(lambda i: value_at(f, i + later)))
+
+
+def backward_sum(name, f, g):
+    if too_long(f, g):
+        return refused(name, 14)
+    chain(name, backward_elements(lambda i: backward_at(f, i) + backward_at(g, i)))
+
+
+def backward_product(name, f, g):
+    if too_long(f, g):
+        return refused(name, 14)
+    if length(f) + length(g) > 16:
+        return refused(name, 15)
+    chain(name, backward_elements(lambda i: backward_at(f, i) * backward_at(g, i)))
+
+
+def worked_backwards(name, function, printed=None):
+    """The backward chain of a function of the index; where the document gives the chain, the two must agree."""
+    f = backward_elements(function)
+    assert printed is None or f == [e % WORD for e in printed], name
+    chain(name, f)
+
+
+def walk(name, function):
+    """From now towards then by the forward chain and by the backward one, and from now on by the backward one."""
+    back, ahead = (",".join(str(function(step * i) % WORD) for i in range(20)) for step in (-1, 1))
+    line(name, f"{back} {back} {ahead}")
 
 
 # ---- reading a formula
@@ -1986,6 +2059,110 @@ def drill():
     compiling("x+3^(x)", (3, MOST, "e"), (3, MOST))
 
 
+CUBES = [0, 1, 6, 6]
+BACKWARD_CUBES = [0, 1, -6, 6]
+
+
+def backward_calls():
+    """Constants, words that wrap, lengths 16 and 17, and words past the length that are not to be read."""
+    for call in CHANGES:
+        for f in ([5], [0], [-1], [1, 1], [-1, 1], CUBES, BACKWARD_CUBES, [0, 0, 0, 1], [1, 2, 0, 0], [0, 0, 0], [-1] * 4,
+                  [HALF] * 3):
+            change(call, ",".join(map(str, f)), f)
+        change(call, "length 16", MIXED)
+        change(call, "length 16, zeros before 3", [0] * 16 + [3])
+        change(call, "length 16, zeros after 3", [3] + [0] * 16)
+        change(call, "length 17", [1] * 18)
+        change(call, "length 17, all zeros", [0] * 18)
+        change(call, "length 17 of 17 words", MIXED + [0])
+        change(call, "length 2^64-1", MIXED + [0])
+        change(call, "length 4 of 17 words", OTHER[:5])
+        change(call, "length 0 of 17 words", OTHER[:1])
+    for name, f in (("5", [5]), ("of a chain", [7, 1, -6, 6]), ("largest", [-1, 1]), ("of trailing zeros", [3, 0, 0]),
+                    ("length 16", MIXED), ("length 17", [8] * 18), ("length 17 of 17 words", MIXED + [0])):
+        value(f"backward value {name}", f)
+
+
+def there_and_back():
+    """Conversions there and back, and shifts that cancel, give the trimmed chain again."""
+    for letters in ("B F", "F B", "E I", "I E", "e i", "i e"):
+        for name, f in (("7", [7]), ("-1,-2,-3,-4,-5", [-1, -2, -3, -4, -5]), ("1,-1,1,-1,0,0", [1, -1, 1, -1, 0, 0]),
+                        ("halves", [HALF, HALF - 1, HALF + 1, HALF]), ("length 16", MIXED), ("largest words", [-1] * 17)):
+            trim(f"{letters} {name}", f)
+
+
+def backward_sums():
+    for name, f, g in (("i + i^3", [0, 1], BACKWARD_CUBES), ("2 + 3", [2], [3]), ("of trailing zeros", [1, 2, 0, 0], [1, 0, 0]),
+                       ("last element cancels", [1, 2, 3], [1, 2, -3]), ("wraps to 0", [-1, HALF], [1, HALF]),
+                       ("length 16 both", MIXED, OTHER), ("length 17 first", [0] * 18, [1, 2]),
+                       ("length 17 second", [1, 2], [0] * 18), ("length 17 of 17 words", MIXED + [0], OTHER),
+                       ("lengths 3 and 7 of 17 words", MIXED[:4], OTHER[:8])):
+        backward_sum(f"backward sum {name}", f, g)
+
+
+def backward_products():
+    """Both sides of the limit, by trimmed lengths, and 14 ahead of 15."""
+    for name, f, g in (("6 * 7", [6], [7]), ("3 * 1,2,3", [3], [1, 2, 3]), ("1,2,3 * 0", [1, 2, 3], [0]),
+                       ("2^63 * 0,2,4", [HALF], [0, 2, 4]), ("-1,-1 * -1,-1", [-1, -1], [-1, -1]),
+                       ("2,1,1 * 3,1,4,1", [2, 1, 1], [3, 1, 4, 1]),
+                       ("lengths 12 and 12, trimmed to 8", [1] * 9 + [0] * 4, [1] * 9 + [0] * 4),
+                       ("lengths 12 and 12, trimmed to 8 and 9", [1] * 9 + [0] * 4, [1] * 10 + [0] * 3),
+                       ("lengths 16 and 16, trimmed to 16 and 0", MIXED, [2] + [0] * 16),
+                       ("lengths 16 and 1, values all 0", [0] * 16 + [HALF], [0, 2]),
+                       ("length 17 first, 14 ahead of 15", MIXED + [0], OTHER),
+                       ("length 17 second, 14 ahead of 15", MIXED, OTHER + [0]),
+                       ("length 17 by a constant", MIXED + [0], OTHER[:1])):
+        backward_product(f"backward product {name}", f, g)
+    for total in (16, 17):
+        for k in range(total - 16, 17):
+            backward_product(f"backward product lengths {k} and {total - k}", MIXED[:k + 1], OTHER[:total - k + 1])
+
+
+def backward_loop():
+    """What x, t1, t2 and y of document 000's section 2.5 are after i turns, as polynomials that go back too."""
+    x, t1, t2, y = (lambda i: 2 * i, lambda i: i * (i + 1), lambda i: 40 * i**3 + 24 * i**2,
+                    lambda i: 10 * i**2 * (i + 1)**2 + 4 * i * (i + 1) * (2 * i + 1))
+    assert [(x(i), t1(i), t2(i), y(i)) for i in range(POINTS)] == run_the_loop()
+    return x, t1, t2, y
+
+
+def backward_documents():
+    for made in "by conversion", "by products", "there and back":
+        worked_backwards(f"000 backward i^3 {made}", lambda i: i**3, BACKWARD_CUBES)
+    worked("000 backward i^3 to forward", lambda i: i**3, CUBES)
+    x, t1, t2, y = backward_loop()
+    worked_backwards("000 backward loop x", x, [0, 2])
+    worked_backwards("000 backward loop t1", t1, [0, 0, 2])
+    worked_backwards("000 backward loop t2 by sums and products", t2, [0, 16, -192, 240])
+    worked_backwards("000 backward loop y", y, [0, 0, 16, -192, 240])
+    worked_backwards("000 (11) y one turn behind", lambda i: y(i - 1))
+    for k in range(1, 17):
+        worked_backwards(f"000 rising factorial {k}", lambda i: prod(i + j for j in range(k)), [0] * k + [factorial(k)])
+    for k in range(17):
+        printed = [(-1)**(k - j) * e for j, e in enumerate(forward_elements(lambda i: i**k))]
+        worked_backwards(f"000 remark i^{k}", lambda i: i**k, printed)
+    for k in 1, 2, 5, 16:
+        worked_backwards(f"000 A_{k} to backward", lambda i: sum(over(i, j) for j in range(k + 1)))
+        worked(f"000 B_{k} to forward", lambda i: over(i + k, k))
+
+
+def walks():
+    x, t1, t2, y = backward_loop()
+    walk("walk 5", lambda i: 5)
+    walk("walk i^3", lambda i: i**3)
+    walk("walk -i^2", lambda i: -i**2)
+    walk("walk 000's t1", t1)
+    walk("walk 000's t2", t2)
+    walk("walk 000's y", y)
+    walk("walk 000's A_4", lambda i: sum(over(i, j) for j in range(5)))
+    walk("walk 000's B_4", lambda i: over(i + 4, 4))
+    walk("walk stamps across an era", lambda i: (i + 4) * 2**32)
+    walk("walk i^16", lambda i: i**16)
+    walk("walk a mixed chain", lambda i: forward_at(MIXED, i))
+    walk("walk a mixed backward chain", lambda i: backward_at(OTHER, i))
+    walk("walk a mixed backward product", lambda i: backward_at(MIXED[:8], i) * backward_at(OTHER[:10], i))
+
+
 if __name__ == "__main__":
     chains()
     sums()
@@ -2035,3 +2212,9 @@ if __name__ == "__main__":
     eras()
     drill()
     unset_readings()
+    backward_calls()
+    there_and_back()
+    backward_sums()
+    backward_products()
+    backward_documents()
+    walks()

@@ -16,11 +16,16 @@ impl Chain {
     }
 }
 
-fn chain(call: impl FnOnce(*mut ChainAnswer)) -> Result<Chain, Refusal> {
+/// The length and the elements of an answer that is a chain.
+pub(crate) fn answered(call: impl FnOnce(*mut ChainAnswer)) -> Result<(usize, Words), Refusal> {
     let mut answer = [0; 20];
     call(&mut answer);
     let [number, place, length, words @ ..] = answer;
-    Refusal::of(number, place).map(|()| Chain { length: length as usize, words })
+    Refusal::of(number, place).map(|()| (length as usize, words))
+}
+
+pub(crate) fn chain(call: impl FnOnce(*mut ChainAnswer)) -> Result<Chain, Refusal> {
+    answered(call).map(|(length, words)| Chain { length, words })
 }
 
 pub fn trim(f: &Words, k: u64) -> Result<Chain, Refusal> {

@@ -17,6 +17,8 @@
 //! The library is an archive for x86-64 Linux that `rt staticlib otterchime` writes. Where it can't be linked, only the types
 //! are here: `LINKED` says which.
 #[cfg(otterchime_linked)]
+mod backward;
+#[cfg(otterchime_linked)]
 mod chains;
 #[cfg(otterchime_linked)]
 mod plans;
@@ -26,6 +28,10 @@ mod raw;
 mod readings;
 mod refusal;
 
+#[cfg(otterchime_linked)]
+pub use backward::{
+    backward_inverse_shift, backward_product, backward_shift, backward_sum, backward_value, inverse_shift, to_backward, to_forward, BackwardChain,
+};
 #[cfg(otterchime_linked)]
 pub use chains::{difference, from_coefficients, product, shift, sum, trim, value, Chain, Shifted};
 #[cfg(otterchime_linked)]

@@ -22,5 +22,13 @@ extern "C" {
     pub fn otterchime_difference(f: *const Words, k: u64, g: *const Words, l: u64, answer: *mut ChainAnswer);
     pub fn otterchime_product(f: *const Words, k: u64, g: *const Words, l: u64, answer: *mut ChainAnswer);
     pub fn otterchime_from_coefficients(coefficients: *const u64, count: usize, answer: *mut ChainAnswer);
+    pub fn otterchime_inverse_shift(f: *const Words, k: u64, answer: *mut ChainAnswer);
+    pub fn otterchime_backward_value(f: *const Words, k: u64, answer: *mut [u64; 3]);
+    pub fn otterchime_backward_shift(f: *const Words, k: u64, answer: *mut ChainAnswer);
+    pub fn otterchime_backward_inverse_shift(f: *const Words, k: u64, answer: *mut ChainAnswer);
+    pub fn otterchime_backward_sum(f: *const Words, k: u64, g: *const Words, l: u64, answer: *mut ChainAnswer);
+    pub fn otterchime_backward_product(f: *const Words, k: u64, g: *const Words, l: u64, answer: *mut ChainAnswer);
+    pub fn otterchime_to_backward(f: *const Words, k: u64, answer: *mut ChainAnswer);
+    pub fn otterchime_to_forward(f: *const Words, k: u64, answer: *mut ChainAnswer);
     pub fn otterchime_probe(reading: u64, expected: u64, tolerance: u64, answer: *mut [u64; 4]);
 }

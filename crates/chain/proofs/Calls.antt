@@ -7,7 +7,7 @@ use native.Mathlib.Numerals.{add-one}
 use native.Mathlib.Omega.{arith}
 use lib.ListN.{length, getD, take, length-take, length-map}
 use Rattle.chain.specs.Chain.{value, rest, joined, words, trimmed, row}
-use Rattle.chain.specs.SumChain.{sumAt, sumShift, sum, difference, scaled, times, product}
+use Rattle.chain.specs.SumChain.{sumAt, sumShift, sum, difference, scaled, times, productBy, product}
 use Rattle.chain.specs.Answer.{given}
 use Rattle.chain.proofs.SumLaws.{value-sum, value-scaled, value-product, sum-shift, difference-as-sum}
 use Rattle.chain.proofs.Trimming.{value-trimmed-sum, trimmed-row, length-row, length-trimmed}
@@ -27,28 +27,33 @@ length-joined _⊙_ unit (suc n) (a ∷ f) g p q =
     shorter [] h = omega arith
     shorter (b ∷ g) h = omega arith
 
-length-times : (a : ℕ) (below : List ℕ → List ℕ) (k : ℕ) → ((l : ℕ) (g : List ℕ) → length g ≤ suc l → length (below g) ≤ k + l)
-    → (g : List ℕ) (l : ℕ) → length g ≤ suc l → length (times a below g) ≤ suc k + l
-unfolding times
-length-times a below k short [] l h = omega arith
-length-times a below k short (b ∷ g) l h =
-    next (length-joined _+_ 0 (k + l) (times a below g) (below (sumShift (b ∷ g))) (earlier g (length-times a below k short g) l h) (short l (sumShift (b ∷ g)) (rw (length-shift _+_ (b ∷ g)) h)))
-  where
-    next : {n : ℕ} → n ≤ k + l → suc n ≤ suc k + l
-    next p = omega arith
+-- A product's length, for every shift that keeps the length.
+module _ (step : List ℕ → List ℕ) (keeps : (g : List ℕ) → length (step g) ≡ length g) where
+  length-times : (a : ℕ) (below : List ℕ → List ℕ) (k : ℕ) → ((l : ℕ) (g : List ℕ) → length g ≤ suc l → length (below g) ≤ k + l)
+      → (g : List ℕ) (l : ℕ) → length g ≤ suc l → length (times step a below g) ≤ suc k + l
+  unfolding times
+  length-times a below k short [] l h = omega arith
+  length-times a below k short (b ∷ g) l h =
+      next (length-joined _+_ 0 (k + l) (times step a below g) (below (step (b ∷ g))) (earlier g (length-times a below k short g) l h) (short l (step (b ∷ g)) (rw (keeps (b ∷ g)) h)))
+    where
+      next : {n : ℕ} → n ≤ k + l → suc n ≤ suc k + l
+      next p = omega arith
 
-    earlier : (g : List ℕ) → ((l : ℕ) → length g ≤ suc l → length (times a below g) ≤ suc k + l)
-        → (l : ℕ) → length (b ∷ g) ≤ suc l → length (times a below g) ≤ k + l
-    earlier [] again l h = omega arith
-    earlier (c ∷ g) again zero h = absurd (not-suc-le-zero (le-of-suc-le-suc h))
-    earlier (c ∷ g) again (suc l) h = omega (arith, again l (le-of-suc-le-suc h))
+      earlier : (g : List ℕ) → ((l : ℕ) → length g ≤ suc l → length (times step a below g) ≤ suc k + l)
+          → (l : ℕ) → length (b ∷ g) ≤ suc l → length (times step a below g) ≤ k + l
+      earlier [] again l h = omega arith
+      earlier (c ∷ g) again zero h = absurd (not-suc-le-zero (le-of-suc-le-suc h))
+      earlier (c ∷ g) again (suc l) h = omega (arith, again l (le-of-suc-le-suc h))
+
+  pub length-product-by : (f g : List ℕ) (k l : ℕ) → length f ≤ k → length g ≤ suc l → length (productBy step f g) ≤ k + l
+  unfolding productBy
+  length-product-by [] g k l p q = omega arith
+  length-product-by (a ∷ f) g zero l p q = absurd (not-suc-le-zero p)
+  length-product-by (a ∷ f) g (suc k) l p q =
+      length-times a (productBy step f) k (λ n h. length-product-by f h k n (le-of-suc-le-suc p)) g l q
 
 pub length-product : (f g : List ℕ) (k l : ℕ) → length f ≤ k → length g ≤ suc l → length (product f g) ≤ k + l
-unfolding product
-length-product [] g k l p q = omega arith
-length-product (a ∷ f) g zero l p q = absurd (not-suc-le-zero p)
-length-product (a ∷ f) g (suc k) l p q =
-    length-times a (product f) k (λ n h. length-product f h k n (le-of-suc-le-suc p)) g l q
+length-product f g k l p q = length-product-by sumShift (length-shift _+_) f g k l p q
 
 -- ---- the arguments: an array's first k + 1 words, with zeros past them
 module _ (f : List ℕ) (k : ℕ) (long : length f ≡ 17) where

@@ -7,7 +7,7 @@ use native.Mathlib.Nat.{add-zero, mul-zero, mul-add, mod-mod, pow-zero, pow-suc}
 use native.Mathlib.Omega.{arith}
 use Rattle.word.proofs.Modulo.{add-same}
 use Rattle.chain.specs.Chain.{value, rest, shift, joined, words}
-use Rattle.chain.specs.SumChain.{sumAt, sumShift, sum, difference, scaled, times, product, power}
+use Rattle.chain.specs.SumChain.{sumAt, sumShift, sum, difference, scaled, times, productBy, product, power}
 use Rattle.word.specs.Word as Word
 use Rattle.word.proofs.Ring as Ring
 use Rattle.chain.proofs.Values as Values
@@ -42,7 +42,7 @@ pub value-words : (w : ℕ) (f : List ℕ) (i : ℕ) → sumAt (words w f) i % 2
 value-words w f i = Values.value-reduced _+_ 0 add-zero (2 ^ w) (add-same (2 ^ w)) (λ a. mod-mod a (2 ^ w)) f i
 
 -- ---- difference: elementwise it is the sum with the other chain scaled by 2^w - 1, modulo 2^w
-minus-is : (w a b : ℕ) → Word.difference w a b ≡ (a + (2 ^ w - 1) * b) % 2 ^ w
+pub minus-is : (w a b : ℕ) → Word.difference w a b ≡ (a + (2 ^ w - 1) * b) % 2 ^ w
 minus-is w a b =
     Ring.difference-negation w a b
     ∙ ap (λ z. (a + z) % 2 ^ w) (Ring.negation-product w b)
@@ -71,23 +71,31 @@ value-difference w f g i =
 -- The rule itself, as 01 writes it.
 pub product-rule : (a b : ℕ) (f g : List ℕ)
     → product (a ∷ f) (b ∷ g) ≡ (a * b) ∷ sum (product (a ∷ f) g) (product f (sumShift (b ∷ g)))
-unfolding product times
+unfolding productBy times
 product-rule a b f g = refl
 
+-- A product's first element, and one with no element, however the second chain is shifted.
+module _ (step : List ℕ → List ℕ) where
+  pub product-by-none : (f : List ℕ) → productBy step f [] ≡ []
+  unfolding productBy times
+  product-by-none [] = refl
+  product-by-none (a ∷ f) = refl
+
+  pub product-by-value : (f g : List ℕ) → value 0 (productBy step f g) ≡ value 0 f * value 0 g
+  unfolding productBy times
+  product-by-value [] g = omega arith
+  product-by-value (a ∷ f) [] = omega arith
+  product-by-value (a ∷ f) (b ∷ g) = refl
+
 pub product-none : (f : List ℕ) → product f [] ≡ []
-unfolding product times
-product-none [] = refl
-product-none (a ∷ f) = refl
+product-none f = product-by-none sumShift f
 
 pub product-value : (f g : List ℕ) → value 0 (product f g) ≡ value 0 f * value 0 g
-unfolding product times
-product-value [] g = omega arith
-product-value (a ∷ f) [] = omega arith
-product-value (a ∷ f) (b ∷ g) = refl
+product-value f g = product-by-value sumShift f g
 
 pub product-rest : (f g : List ℕ) (i : ℕ)
     → sumAt (rest (product f g)) i ≡ sumAt (product f (rest g)) i + sumAt (product (rest f) (sumShift g)) i
-unfolding product times shift
+unfolding productBy times shift
 product-rest [] g i = rw (sum-none i)
 product-rest (a ∷ f) [] i = rw (sum-none i, product-none f) (rw (sum-none i))
 product-rest (a ∷ f) (b ∷ g) i = value-sum (product (a ∷ f) g) (product f (sumShift (b ∷ g))) i

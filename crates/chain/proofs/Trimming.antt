@@ -9,7 +9,7 @@ use native.Mathlib.Omega.{arith}
 use lib.Dec.{eqb}
 use lib.ListN.{length, getD, take}
 use borrow.Author.Tests.{eqb-true, eq-eqb, ne-eqb}
-use Rattle.chain.specs.Chain.{value, rest, shift, valueAt, words, withLast, withoutTrailing, trimmed, row}
+use Rattle.chain.specs.Chain.{value, rest, shift, meeting, shiftFromTop, valueAt, words, withLast, withoutTrailing, trimmed, row}
 use Rattle.chain.specs.SumChain.{sumAt, sumShift}
 use Rattle.chain.specs.ProductChain.{productAt, trimmedProduct}
 use Rattle.chain.proofs.Values as Values
@@ -146,6 +146,25 @@ unfolding trimmed
 take-trimmed unit [] h = absurd (not-suc-le-zero h)
 take-trimmed unit (a ∷ f) h = ap {B = List ℕ} (λ g. a ∷ g) (take-without-trailing unit f)
 
+-- ---- trimming twice trims once
+twice-with-last : (unit a : ℕ) (f : List ℕ) → withoutTrailing unit f ≡ f → withoutTrailing unit (withLast unit a f) ≡ withLast unit a f
+unfolding withoutTrailing withLast
+twice-with-last unit a [] same = go (eqb a unit) refl
+  where
+    go : (t : Bool) → eqb a unit ≡ t → withoutTrailing unit (cond t [] (a ∷ [])) ≡ cond t [] (a ∷ [])
+    go true e = refl
+    go false e = ap (λ t. cond t [] (a ∷ [])) e
+twice-with-last unit a (b ∷ f) same = ap (withLast unit a) same
+
+twice-without-trailing : (unit : ℕ) (f : List ℕ) → withoutTrailing unit (withoutTrailing unit f) ≡ withoutTrailing unit f
+unfolding withoutTrailing
+twice-without-trailing unit [] = refl
+twice-without-trailing unit (a ∷ f) = twice-with-last unit a (withoutTrailing unit f) (twice-without-trailing unit f)
+
+pub trimmed-twice : (unit : ℕ) (f : List ℕ) → trimmed unit (trimmed unit f) ≡ trimmed unit f
+unfolding trimmed
+trimmed-twice unit f = ap {B = List ℕ} (λ g. value unit f ∷ g) (twice-without-trailing unit (rest f))
+
 -- ---- trailing units dropped, one after the other from the top
 module _ (unit : ℕ) where
   dropped : (g : List ℕ) (n : ℕ) → n < length g → getD g n 0 ≡ unit → withoutTrailing unit (take (suc n) g) ≡ withoutTrailing unit (take n g)
@@ -189,7 +208,7 @@ module _ (unit : ℕ) where
   trailing-none [] h = absurd (not-suc-le-zero h)
   trailing-none (a ∷ f) h = refl
 
--- ---- a shift keeps the trimmed length: the last element that is not 0 stays
+-- ---- a shift keeps the trimmed length, from either end: the last element that is not 0 stays
 module _ (w : ℕ) where
   none-left : (a : ℕ) (f : List ℕ) → length (withoutTrailing 0 (words w (a ∷ f))) ≡ 0 → a % 2 ^ w ≡ 0
   unfolding withoutTrailing withLast
@@ -206,7 +225,7 @@ module _ (w : ℕ) where
           impossible : suc (suc (length g)) ≡ 0 → ⊥
           impossible e = omega arith
 
-  same-with-last : (a b : ℕ) (f g : List ℕ) → length f ≡ length g → (length f ≡ 0 → a ≡ b) → length (withLast 0 a f) ≡ length (withLast 0 b g)
+  pub same-with-last : (a b : ℕ) (f g : List ℕ) → length f ≡ length g → (length f ≡ 0 → a ≡ b) → length (withLast 0 a f) ≡ length (withLast 0 b g)
   unfolding withLast
   same-with-last a b [] [] e same = ap (λ z. length (withLast 0 z [])) (same refl)
   same-with-last a b [] (y ∷ g) e same = absurd (impossible e)
@@ -219,19 +238,50 @@ module _ (w : ℕ) where
       impossible e = omega arith
   same-with-last a b (x ∷ f) (y ∷ g) e same = ap suc e
 
-  shift-length : (f : List ℕ) → length (withoutTrailing 0 (words w (sumShift f))) ≡ length (withoutTrailing 0 (words w f))
-  unfolding shift withoutTrailing
-  shift-length [] = refl
-  shift-length (a ∷ []) = refl
-  shift-length (a ∷ b ∷ f) =
-      same-with-last ((a + b) % 2 ^ w) (a % 2 ^ w) (withoutTrailing 0 (words w (sumShift (b ∷ f)))) (withoutTrailing 0 (words w (b ∷ f)))
-      (shift-length (b ∷ f))
-      (λ e. sym (add-mod-mod a b (2 ^ w)) ∙ ap (λ z. (a + z) % 2 ^ w) (none-left b f (sym (shift-length (b ∷ f)) ∙ e)) ∙ ap (λ z. z % 2 ^ w) (add-zero a))
+  module _ (_⊙_ : ℕ → ℕ → ℕ) (right-zero : (a b : ℕ) → b % 2 ^ w ≡ 0 → _⊙_ a b % 2 ^ w ≡ a % 2 ^ w) where
+    pub shift-length : (f : List ℕ) → length (withoutTrailing 0 (words w (shift _⊙_ f))) ≡ length (withoutTrailing 0 (words w f))
+    unfolding shift withoutTrailing
+    shift-length [] = refl
+    shift-length (a ∷ []) = refl
+    shift-length (a ∷ b ∷ f) =
+        same-with-last (_⊙_ a b % 2 ^ w) (a % 2 ^ w) (withoutTrailing 0 (words w (shift _⊙_ (b ∷ f)))) (withoutTrailing 0 (words w (b ∷ f)))
+        (shift-length (b ∷ f))
+        (λ e. right-zero a b (none-left b f (sym (shift-length (b ∷ f)) ∙ e)))
+
+    pub from-top-length : (f : List ℕ) → length (withoutTrailing 0 (words w (shiftFromTop _⊙_ f))) ≡ length (withoutTrailing 0 (words w f))
+    unfolding shiftFromTop meeting withoutTrailing
+    from-top-length [] = refl
+    from-top-length (a ∷ f) = go (shiftFromTop _⊙_ f) (from-top-length f)
+      where
+        go : (g : List ℕ) → length (withoutTrailing 0 (words w g)) ≡ length (withoutTrailing 0 (words w f))
+            → length (withoutTrailing 0 (words w (meeting _⊙_ a g))) ≡ length (withLast 0 (a % 2 ^ w) (withoutTrailing 0 (words w f)))
+        go [] e = same-with-last (a % 2 ^ w) (a % 2 ^ w) [] (withoutTrailing 0 (words w f)) e (λ _. refl)
+        go (b ∷ g) e =
+            same-with-last (_⊙_ a b % 2 ^ w) (a % 2 ^ w) (withoutTrailing 0 (words w (b ∷ g))) (withoutTrailing 0 (words w f)) e
+            (λ none. right-zero a b (none-left b g none))
+
+  -- The first element always stays, so a chain's trimmed length is that of its rest.
+  pub trimmed-length : (f g : List ℕ) → length (withoutTrailing 0 (words w (rest f))) ≡ length (withoutTrailing 0 (words w (rest g)))
+      → length (trimmed 0 (words w f)) ≡ length (trimmed 0 (words w g))
+  unfolding trimmed
+  trimmed-length f g e =
+      ap (λ h. suc (length (withoutTrailing 0 h))) (Values.rest-map (λ a. a % 2 ^ w) f)
+      ∙ ap suc e
+      ∙ ap (λ h. suc (length (withoutTrailing 0 h))) (sym (Values.rest-map (λ a. a % 2 ^ w) g))
+
+  module _ (_⊙_ : ℕ → ℕ → ℕ) (right-zero : (a b : ℕ) → b % 2 ^ w ≡ 0 → _⊙_ a b % 2 ^ w ≡ a % 2 ^ w) where
+    pub bottom-keeps-length : (f : List ℕ) → length (trimmed 0 (words w (shift _⊙_ f))) ≡ length (trimmed 0 (words w f))
+    bottom-keeps-length f =
+        trimmed-length (shift _⊙_ f) f
+        (ap (λ g. length (withoutTrailing 0 (words w g))) (Values.shift-rest _⊙_ f) ∙ shift-length _⊙_ right-zero (rest f))
+
+    pub top-keeps-length : (f : List ℕ) → length (trimmed 0 (words w (shiftFromTop _⊙_ f))) ≡ length (trimmed 0 (words w f))
+    top-keeps-length f =
+        trimmed-length (shiftFromTop _⊙_ f) f
+        (ap (λ g. length (withoutTrailing 0 (words w g))) (Values.from-top-rest _⊙_ f) ∙ from-top-length _⊙_ right-zero (rest f))
+
+  pub plus-zero : (a b : ℕ) → b % 2 ^ w ≡ 0 → (a + b) % 2 ^ w ≡ a % 2 ^ w
+  plus-zero a b e = sym (add-mod-mod a b (2 ^ w)) ∙ ap (λ z. (a + z) % 2 ^ w) e ∙ ap (λ z. z % 2 ^ w) (add-zero a)
 
   pub shift-keeps-length : (f : List ℕ) → length (trimmed 0 (words w (sumShift f))) ≡ length (trimmed 0 (words w f))
-  unfolding trimmed
-  shift-keeps-length f =
-      ap (λ g. suc (length (withoutTrailing 0 g)))
-      (Values.rest-map (λ a. a % 2 ^ w) (sumShift f) ∙ ap (λ g. words w g) (Values.shift-rest _+_ f))
-      ∙ ap suc (shift-length (rest f))
-      ∙ ap (λ g. suc (length (withoutTrailing 0 g))) (sym (Values.rest-map (λ a. a % 2 ^ w) f))
+  shift-keeps-length f = bottom-keeps-length _+_ plus-zero f

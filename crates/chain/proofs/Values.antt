@@ -3,7 +3,7 @@
 use mathlib.Core.Path.{_≡_, refl, sym, ap, ap₂, _∙_}
 use mathlib.Core.List.{List, [], _∷_, map}
 use Prim.Native.Nat.{ℕ, zero, suc, _%_}
-use Rattle.chain.specs.Chain.{value, rest, shift, shifted, valueAt, joined}
+use Rattle.chain.specs.Chain.{value, rest, shift, meeting, shiftFromTop, shifted, valueAt, joined}
 
 pub rest-map : (h : ℕ → ℕ) (f : List ℕ) → rest (map h f) ≡ map h (rest f)
 rest-map h [] = refl
@@ -18,6 +18,15 @@ unfolding shift
 shift-rest _⊙_ [] = refl
 shift-rest _⊙_ (a ∷ []) = refl
 shift-rest _⊙_ (a ∷ b ∷ f) = refl
+
+pub from-top-rest : (_⊙_ : ℕ → ℕ → ℕ) (f : List ℕ) → rest (shiftFromTop _⊙_ f) ≡ shiftFromTop _⊙_ (rest f)
+unfolding shiftFromTop meeting
+from-top-rest _⊙_ [] = refl
+from-top-rest _⊙_ (a ∷ f) = go (shiftFromTop _⊙_ f)
+  where
+    go : (g : List ℕ) → rest (meeting _⊙_ a g) ≡ g
+    go [] = refl
+    go (b ∷ g) = refl
 
 module _ (_⊙_ : ℕ → ℕ → ℕ) (unit : ℕ) (right-unit : (a : ℕ) → _⊙_ a unit ≡ a) where
   pub shift-value : (f : List ℕ) → value unit (shift _⊙_ f) ≡ _⊙_ (value unit f) (value unit (rest f))
@@ -67,13 +76,13 @@ module _ (_⊙_ : ℕ → ℕ → ℕ) (unit : ℕ) (right-unit : (a : ℕ) → 
       ∙ ap (λ z. _⊙_ c z) (sym (value-next f i))
 
   -- The join of two chains: ⊙ of the values.
-  joined-value : (f g : List ℕ) → value unit (joined _⊙_ unit f g) ≡ _⊙_ (value unit f) (value unit g)
+  pub joined-value : (f g : List ℕ) → value unit (joined _⊙_ unit f g) ≡ _⊙_ (value unit f) (value unit g)
   unfolding joined
   joined-value [] [] = sym (right-unit unit)
   joined-value [] (b ∷ g) = refl
   joined-value (a ∷ f) g = refl
 
-  joined-rest : (f g : List ℕ) → rest (joined _⊙_ unit f g) ≡ joined _⊙_ unit (rest f) (rest g)
+  pub joined-rest : (f g : List ℕ) → rest (joined _⊙_ unit f g) ≡ joined _⊙_ unit (rest f) (rest g)
   unfolding joined
   joined-rest [] g = rest-map (λ b. _⊙_ unit b) g
   joined-rest (a ∷ f) g = refl

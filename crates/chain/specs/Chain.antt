@@ -22,6 +22,16 @@ shift _⊙_ [] = []
 shift _⊙_ (a ∷ []) = a ∷ []
 shift _⊙_ (a ∷ b ∷ f) = (_⊙_ a b) ∷ shift _⊙_ (b ∷ f)
 
+-- Document 000's shifts that go from the top down: "the subchain Φ1 has to be shifted before its value is used". The rest goes first, and the first element meets
+-- its neighbour's new value. `meeting _⊙_ a g` puts a, ⊙ the value of g, before g.
+unfoldable pub meeting : (ℕ → ℕ → ℕ) → ℕ → List ℕ → List ℕ
+meeting _⊙_ a [] = a ∷ []
+meeting _⊙_ a (b ∷ g) = (_⊙_ a b) ∷ b ∷ g
+
+unfoldable pub shiftFromTop : (ℕ → ℕ → ℕ) → List ℕ → List ℕ
+shiftFromTop _⊙_ [] = []
+shiftFromTop _⊙_ (a ∷ f) = meeting _⊙_ a (shiftFromTop _⊙_ f)
+
 -- The chain after i shifts, and its value then: its value at index i.
 unfoldable pub shifted : (ℕ → ℕ → ℕ) → ℕ → List ℕ → List ℕ
 shifted _⊙_ zero f = f

@@ -13,14 +13,9 @@ abbrev pub sumShift : List ℕ → List ℕ
 sumShift f = Chain.shift _+_ f
 
 -- Document 000's inverse shift: a constant stays, and {φ0, +, Φ1} becomes "{φ0 - V(E^-1(Φ1)), +, E^-1(Φ1)}": the rest is unshifted
--- first, then its value is subtracted. `lessNext w a g` puts a, less the value of g, before g.
-unfoldable pub lessNext : ℕ → ℕ → List ℕ → List ℕ
-lessNext w a [] = a ∷ []
-lessNext w a (b ∷ g) = Word.difference w a b ∷ b ∷ g
-
-unfoldable pub inverseShift : ℕ → List ℕ → List ℕ
-inverseShift w [] = []
-inverseShift w (a ∷ f) = lessNext w a (inverseShift w f)
+-- first, then its value is subtracted.
+abbrev pub inverseShift : ℕ → List ℕ → List ℕ
+inverseShift w f = Chain.shiftFromTop (Word.difference w) f
 
 -- "C+S, S+C, S+S, and the same under -: element by element, the shorter one filled with zeros, C standing as f0."
 abbrev pub sum : List ℕ → List ℕ → List ℕ
@@ -35,14 +30,18 @@ abbrev pub scaled : ℕ → List ℕ → List ℕ
 scaled c f = map (λ a. c * a) f
 
 -- "document 000's rule, f*g = (f0*g0, then the chain of f*g1 + f1*(shifted g)), where f1 and g1 are the chains without their
--- first element." For f = (a, f1), `times a below g` is f*g, and `below` multiplies by f1.
-unfoldable pub times : ℕ → (List ℕ → List ℕ) → List ℕ → List ℕ
-times a below [] = []
-times a below (b ∷ g) = (a * b) ∷ sum (times a below g) (below (sumShift (b ∷ g)))
+-- first element." For f = (a, f1), `times step a below g` is f*g, and `below` multiplies by f1. How g is shifted is a parameter: by E here, and by E^-1 for
+-- the backward chains of BackwardChain.antt.
+unfoldable pub times : (List ℕ → List ℕ) → ℕ → (List ℕ → List ℕ) → List ℕ → List ℕ
+times step a below [] = []
+times step a below (b ∷ g) = (a * b) ∷ sum (times step a below g) (below (step (b ∷ g)))
 
-unfoldable pub product : List ℕ → List ℕ → List ℕ
-product [] g = []
-product (a ∷ f) g = times a (product f) g
+unfoldable pub productBy : (List ℕ → List ℕ) → List ℕ → List ℕ → List ℕ
+productBy step [] g = []
+productBy step (a ∷ f) g = times step a (productBy step f) g
+
+abbrev pub product : List ℕ → List ℕ → List ℕ
+product f g = productBy sumShift f g
 
 -- "S^n": the n-fold product; n = 0 gives 1.
 unfoldable pub power : List ℕ → ℕ → List ℕ

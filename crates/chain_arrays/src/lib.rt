@@ -6,11 +6,13 @@ ghost use mathlib.Core.List.{[]};
 ghost use Prim.Native.Nat.{_+_, _-_, _≤_};
 ghost use lib.ListN.{length, take};
 ghost use Rattle.word.specs.Signed.{signed};
-ghost use Rattle.chain.specs.Chain.{trimmed, row};
+ghost use Rattle.chain.specs.Chain.{shiftFromTop, trimmed, row};
 ghost use Rattle.chain.specs.Crossing.{crossedBy};
-ghost use Rattle.chain.specs.SumChain.{inverseShift};
 ghost use Rattle.chain.specs.Answer.{answered, refused, chain};
 ghost use Rattle.chain_arrays.specs.Operations.{worked, wordByWord, shiftedBy};
+
+// The longest chain.
+pub const LONGEST: usize = 16;
 
 // 2^63: the least word that reads as a negative number.
 const NEGATIVE: u64 = 9223372036854775808;
@@ -113,14 +115,14 @@ pub fn crossed(a: u64, b: u64) -> i64
     -1
 }
 
-// One shift of a sum chain taken back in place, from the top down: each word meets its neighbour's new value.
-pub fn unshift_part(f: &mut [u64])
-    ensures { λ _. ⌜ now (f .exit) ≡ inverseShift 64 (now (f .entry)) ⌝ }
+// One shift in place, from the top down: each word meets its neighbour's new value.
+pub fn shift_from_top(operation: Operation, f: &mut [u64])
+    ensures { λ _. ⌜ now (f .exit) ≡ shiftFromTop (worked operation) (now (f .entry)) ⌝ }
 {
     let mut left = f.len();
     while 1 < left {
         let at = left - 2;
-        f[at] = std::num::wrapping_sub_u64(f[at], f[at + 1]);
+        f[at] = worked(operation, f[at], f[at + 1]);
         left -= 1;
     }
 }

@@ -3,6 +3,7 @@
 use chain::ChainAnswer;
 use chain::ShiftAnswer;
 use chain::ValueAnswer;
+use chain_arrays::LONGEST;
 use chain_arrays::Operation;
 use chain_arrays::accepted;
 use chain_arrays::refusal;
@@ -13,9 +14,7 @@ ghost use Rattle.chain.specs.Chain.{trimmed, row};
 ghost use Rattle.chain_arrays.specs.Operations.{wordByWord};
 ghost use Rattle.chain.specs.Answer.{answered, chain, unlessLong, trimOutcome, sumOutcome, differenceOutcome, productOutcome, shiftAnswer, valueAnswer};
 
-// The longest chain, and the longest product.
-const LONGEST: usize = 16;
-
+// The longest product.
 const LONGEST_PRODUCT: usize = 16;
 
 // The chain f of length k without its trailing zeros.

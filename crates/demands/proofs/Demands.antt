@@ -31,11 +31,19 @@ use Rattle.chain.specs.declared.ShiftAnswer.{ShiftAnswer}
 use Rattle.chain.specs.declared.ValueAnswer.{ValueAnswer}
 use Rattle.chain.specs.Chain as Chain
 use Rattle.chain.specs.SumChain.{sumAt}
+use Rattle.chain.specs.SumChain as SumChain
+use Rattle.chain.specs.BackwardChain.{valueAhead, valueBefore, toBackward, toForward}
+use Rattle.chain.specs.BackwardChain as BackwardChain
 use Rattle.chain.specs.ProductChain.{productAt}
 use Rattle.chain.specs.Coefficients.{polynomial}
 use Rattle.chain.specs.Crossing.{crossing}
 use Rattle.chain.specs.Answer.{answered, chain, given, trimOutcome, sumOutcome, differenceOutcome, productOutcome, shiftOutcome, withCrossing, shiftAnswer, coefficientsOutcome, valueAnswer}
+use Rattle.chain.specs.BackwardAnswer.{inverseShiftOutcome, backwardShiftOutcome, backwardInverseShiftOutcome, backwardProductOutcome, toBackwardOutcome, toForwardOutcome}
 use Rattle.chain.proofs.Values as Values
+use Rattle.chain.proofs.Shifting.{length-from-top}
+use Rattle.chain.proofs.Backward as Backward
+use Rattle.chain.proofs.Conversions as Conversions
+use Rattle.chain.proofs.BackwardCalls as BackwardCalls
 use Rattle.chain.proofs.SumLaws as SumLaws
 use Rattle.chain.proofs.ProductLaws.{value-product-words}
 use Rattle.chain.proofs.Promises as ChainPromises
@@ -496,6 +504,101 @@ module _ {s : List ℕ} {start step : ℕ} {lent : List ℕ} {r : CompileAnswer}
           let (_, _, none, _, _) = refused-eras-keeps (planLeft 64 q earlier) table budget (λ z. omega (arith, z, over)) in
           omega (arith, none)
 
+-- ======== Request Four of document 02: "We want backward chains as document 000 defines them, for sums only, of length up to 16: value, shift, inverse shift, sum,
+-- product, and conversion from and to forward sum chains. Forward sum chains need the inverse shift too." A backward chain's value and sum answer as a forward one's.
+-- "Refusals: 14 and 15 as in 01."
+pub backward-long : (f : List ℕ) (k : ℕ) → 16 < k
+    → (answered (inverseShiftOutcome 64 f k) ≡ noChain 14) × (answered (backwardShiftOutcome 64 f k) ≡ noChain 14)
+    × (answered (backwardInverseShiftOutcome 64 f k) ≡ noChain 14) × (answered (toBackwardOutcome 64 f k) ≡ noChain 14)
+    × (answered (toForwardOutcome 64 f k) ≡ noChain 14)
+unfolding Chain.row
+backward-long f k over = rw (lt-ltb 16 k over) (refl, refl, refl, refl, refl)
+
+pub backward-either-long : (f : List ℕ) (k : ℕ) (g : List ℕ) (l : ℕ) → (16 < k) ⊎ (16 < l) → answered (backwardProductOutcome 64 f k g l) ≡ noChain 14
+unfolding Chain.row
+backward-either-long f k g l over = ap answered (Bridges.either-long over _)
+
+pub backward-product-over : (f : List ℕ) (k : ℕ) (g : List ℕ) (l : ℕ) → k ≤ 16 → l ≤ 16
+    → 16 < (length (given f k) - 1) + (length (given g l) - 1) → answered (backwardProductOutcome 64 f k g l) ≡ noChain 15
+unfolding Chain.row
+backward-product-over f k g l h j over = rw (le-ltb 16 k h, le-ltb 16 l j, lt-ltb 16 ((length (given f k) - 1) + (length (given g l) - 1)) over)
+
+-- Document 000's recurrence (5): "f_j(i) = φ_j, if i = 0; f_j(i-1) + f_{j+1}(i), if i > 0". An inverse shift takes one index back.
+pub backward-chains-mean : (f : List ℕ) (i : ℕ)
+    → (valueAhead f 0 ≡ Chain.value 0 f) × (valueAhead f (suc i) ≡ valueAhead f i + valueAhead (Chain.rest f) (suc i))
+    × (valueAhead (BackwardChain.inverseShift 64 f) (suc i) % 2 ^ 64 ≡ valueAhead f i % 2 ^ 64)
+unfolding BackwardChain.after
+backward-chains-mean f i = (refl, Backward.ahead-next f i, Backward.ahead-unshift 64 f i)
+
+-- The product is 000's rule, "⟨φ0 ψ0, +, Φ(i) Ψ1(i) + Φ1(i) E^-1(Ψ(i))⟩".
+pub backward-product-rule : (a b : ℕ) (f g : List ℕ)
+    → BackwardChain.product 64 (a ∷ f) (b ∷ g)
+    ≡ (a * b) ∷ SumChain.sum (BackwardChain.product 64 (a ∷ f) g) (BackwardChain.product 64 f (BackwardChain.inverseShift 64 (b ∷ g)))
+backward-product-rule a b f g = Backward.backward-rule 64 a b f g
+
+-- The two conversions by 000's definitions: the first element stays, and the rest is converted after one inverse shift, or one shift.
+pub conversions-mean : (a : ℕ) (f : List ℕ)
+    → (toBackward 64 (a ∷ f) ≡ a ∷ toBackward 64 (SumChain.inverseShift 64 f)) × (toForward (a ∷ f) ≡ a ∷ toForward (BackwardChain.shift f))
+conversions-mean a f =
+    (Conversions.convert-next (SumChain.inverseShift 64) a f (length-from-top (Word.difference 64) f), Conversions.convert-next BackwardChain.shift a f (length-from-top _+_ f))
+
+-- "i^3 is 0, 1, -6, 6 as a backward chain", -6 being 2^64 - 6.
+pub cube-backward :
+    (toBackward 64 (0 ∷ 1 ∷ 6 ∷ 6 ∷ []) ≡ 0 ∷ 1 ∷ 18446744073709551610 ∷ 6 ∷ [])
+    × (Chain.words 64 (toForward (0 ∷ 1 ∷ 18446744073709551610 ∷ 6 ∷ [])) ≡ 0 ∷ 1 ∷ 6 ∷ 6 ∷ [])
+unfolding BackwardChain.convertedIn Chain.shiftFromTop Chain.meeting
+cube-backward = (refl, refl)
+
+-- The value of a sum and of a product at every index, ahead of the present one and before it.
+pub backward-sums : (f g : List ℕ) (i : ℕ)
+    → (valueAhead (SumChain.sum f g) i ≡ valueAhead f i + valueAhead g i)
+    × (valueBefore 64 (SumChain.sum f g) i % 2 ^ 64 ≡ (valueBefore 64 f i + valueBefore 64 g i) % 2 ^ 64)
+backward-sums f g i = (Backward.ahead-sum i f g, Backward.before-sum 64 i f g)
+
+pub backward-products : (f g : List ℕ) (i : ℕ)
+    → (valueAhead (BackwardChain.product 64 f g) i % 2 ^ 64 ≡ (valueAhead f i * valueAhead g i) % 2 ^ 64)
+    × (valueBefore 64 (BackwardChain.product 64 f g) i % 2 ^ 64 ≡ (valueBefore 64 f i * valueBefore 64 g i) % 2 ^ 64)
+backward-products f g i = (Backward.ahead-product 64 i f g, Backward.before-product 64 i f g)
+
+-- "both kinds give the same word at every index": ahead, and before, after any number of inverse shifts.
+pub same-word-backward : (f : List ℕ) (i : ℕ)
+    → (valueAhead (toBackward 64 f) i % 2 ^ 64 ≡ sumAt f i % 2 ^ 64)
+    × (valueBefore 64 (toBackward 64 f) i % 2 ^ 64 ≡ Chain.value 0 (BackwardChain.after (SumChain.inverseShift 64) i f) % 2 ^ 64)
+same-word-backward f i = (Conversions.same-ahead 64 f i, Conversions.same-before 64 f i)
+
+pub same-word-forward : (f : List ℕ) (i : ℕ)
+    → (sumAt (toForward f) i % 2 ^ 64 ≡ valueAhead f i % 2 ^ 64)
+    × (Chain.value 0 (BackwardChain.after (SumChain.inverseShift 64) i (toForward f)) % 2 ^ 64 ≡ valueBefore 64 f i % 2 ^ 64)
+same-word-forward f i = (Conversions.forward-ahead 64 f i, Conversions.forward-before 64 f i)
+
+-- Trimming and taking words change no value, so what an answer holds is worth what its outcome's chain is.
+pub backward-trims : (f : List ℕ) (i : ℕ)
+    → (valueAhead (Chain.trimmed 0 f) i ≡ valueAhead f i) × (valueBefore 64 (Chain.trimmed 0 f) i % 2 ^ 64 ≡ valueBefore 64 f i % 2 ^ 64)
+    × (valueAhead (Chain.words 64 f) i % 2 ^ 64 ≡ valueAhead f i % 2 ^ 64) × (valueBefore 64 (Chain.words 64 f) i % 2 ^ 64 ≡ valueBefore 64 f i % 2 ^ 64)
+backward-trims f i = (Backward.ahead-trimmed f i, Backward.before-trimmed 64 f i, Backward.ahead-words 64 f i, Backward.before-words 64 f i)
+
+-- "Converting there and back gives the trimmed chain again, shift and inverse shift cancel in either order": what one call answers is given to the other, for all
+-- arrays of words. "conversions keep the trimmed length".
+module _ (f : List ℕ) (k : ℕ) (long : length f ≡ 17) (fits : (i : ℕ) → getD f i 0 < 2 ^ 64) (short : k ≤ 16) where
+  pub converted-back :
+      (toForwardOutcome 64 (answered (toBackwardOutcome 64 f k) .elements) (answered (toBackwardOutcome 64 f k) .length) ≡ trimOutcome f k)
+      × (toBackwardOutcome 64 (answered (toForwardOutcome 64 f k) .elements) (answered (toForwardOutcome 64 f k) .length) ≡ trimOutcome f k)
+  converted-back = (BackwardCalls.forward-call-again 64 f k long fits short, BackwardCalls.backward-call-again 64 f k long fits short)
+
+  pub forward-shifts-cancel :
+      (inverseShiftOutcome 64 (shiftAnswer 64 f k .elements) (shiftAnswer 64 f k .length) ≡ trimOutcome f k)
+      × (shiftOutcome 64 (answered (inverseShiftOutcome 64 f k) .elements) (answered (inverseShiftOutcome 64 f k) .length) ≡ trimOutcome f k)
+  forward-shifts-cancel = (BackwardCalls.shift-call-undone 64 f k long fits short, BackwardCalls.inverse-call-undone 64 f k long fits short)
+
+  pub backward-shifts-cancel :
+      (backwardInverseShiftOutcome 64 (answered (backwardShiftOutcome 64 f k) .elements) (answered (backwardShiftOutcome 64 f k) .length) ≡ trimOutcome f k)
+      × (backwardShiftOutcome 64 (answered (backwardInverseShiftOutcome 64 f k) .elements) (answered (backwardInverseShiftOutcome 64 f k) .length) ≡ trimOutcome f k)
+  backward-shifts-cancel = (BackwardCalls.backward-shift-call-undone 64 f k long fits short, BackwardCalls.backward-inverse-call-undone 64 f k long fits short)
+
+  pub conversions-keep-length :
+      (answered (toBackwardOutcome 64 f k) .length ≡ answered (trimOutcome f k) .length) × (answered (toForwardOutcome 64 f k) .length ≡ answered (trimOutcome f k) .length)
+  conversions-keep-length = (BackwardCalls.to-backward-call-length 64 f k long fits short, BackwardCalls.to-forward-call-length 64 f k long fits short)
+
 -- ======== "any two conforming answers are proved equal", with all that the call leaves in what it was lent
 pub compile-unique : {s : List ℕ} {start step : ℕ} {lent : List ℕ} {r r′ : CompileAnswer} {q q′ : List ℕ}
     → Compiling 64 s start step lent r q → Compiling 64 s start step lent r′ q′ → (r ≡ r′) × (q ≡ q′)
@@ -549,6 +652,26 @@ value-unique = ChainPromises.value-unique
 pub from-coefficients-unique : (a : List ℕ) (r r′ : ChainAnswer)
     → r ≡ answered (coefficientsOutcome 64 a) → r′ ≡ answered (coefficientsOutcome 64 a) → r ≡ r′
 from-coefficients-unique = ChainPromises.from-coefficients-unique
+
+module _ (f : List ℕ) (k : ℕ) (r r′ : ChainAnswer) where
+  pub inverse-shift-unique : r ≡ answered (inverseShiftOutcome 64 f k) → r′ ≡ answered (inverseShiftOutcome 64 f k) → r ≡ r′
+  inverse-shift-unique = ChainPromises.inverse-shift-unique f k r r′
+
+  pub backward-shift-unique : r ≡ answered (backwardShiftOutcome 64 f k) → r′ ≡ answered (backwardShiftOutcome 64 f k) → r ≡ r′
+  backward-shift-unique = ChainPromises.backward-shift-unique f k r r′
+
+  pub backward-inverse-shift-unique : r ≡ answered (backwardInverseShiftOutcome 64 f k) → r′ ≡ answered (backwardInverseShiftOutcome 64 f k) → r ≡ r′
+  backward-inverse-shift-unique = ChainPromises.backward-inverse-shift-unique f k r r′
+
+  pub to-backward-unique : r ≡ answered (toBackwardOutcome 64 f k) → r′ ≡ answered (toBackwardOutcome 64 f k) → r ≡ r′
+  to-backward-unique = ChainPromises.to-backward-unique f k r r′
+
+  pub to-forward-unique : r ≡ answered (toForwardOutcome 64 f k) → r′ ≡ answered (toForwardOutcome 64 f k) → r ≡ r′
+  to-forward-unique = ChainPromises.to-forward-unique f k r r′
+
+pub backward-product-unique : (f : List ℕ) (k : ℕ) (g : List ℕ) (l : ℕ) (r r′ : ChainAnswer)
+    → r ≡ answered (backwardProductOutcome 64 f k g l) → r′ ≡ answered (backwardProductOutcome 64 f k g l) → r ≡ r′
+backward-product-unique f k g l r r′ = ChainPromises.backward-product-unique f k g l r r′
 
 pub probe-unique : (reading expected tolerance : ℕ) (r r′ : ProbeAnswer)
     → r ≡ probeAnswer reading expected tolerance → r′ ≡ probeAnswer reading expected tolerance → r ≡ r′

@@ -7,7 +7,7 @@ use Prim.Native.Nat.{ℕ, zero, suc, _+_, _*_, _<_}
 use native.Mathlib.Nat.{not-suc-le-zero, le-of-suc-le-suc}
 use lib.ListN.{length, getD}
 use Rattle.chain.specs.Chain.{shift, joined, withLast, withoutTrailing, trimmed, row}
-use Rattle.chain.specs.SumChain.{times, product, power}
+use Rattle.chain.specs.SumChain.{times, productBy, power}
 use Rattle.chain.specs.Coefficients.{tabulated}
 use Rattle.formula.specs.Tree.{Tree}
 use Rattle.formula.specs.Value.{valueFor, directValue}
@@ -30,7 +30,7 @@ use Rattle.demands.proofs.AnyGrid.{folds-to-seven}
 -- ---- what the definitions make of a case, put as its expectation is put
 -- The folded tree and the rows of its plan, unfolded all the way: named on an `unfolding` line, they compute.
 unfoldable pub foldedOf : (start step : ℕ) → Tree → Folded
-unfolding fold foldSum foldMinus foldDifference foldProduct foldPower foldRaise shift joined withLast withoutTrailing trimmed times product power
+unfolding fold foldSum foldMinus foldDifference foldProduct foldPower foldRaise shift joined withLast withoutTrailing trimmed times productBy power
 foldedOf start step t = fold 64 start step t
 
 unfoldable pub rowsOf : (start step : ℕ) → Tree → List Row

@@ -1,5 +1,6 @@
 // Chains worked out by the library's calls from postfix text, on a stack of three; and lists of coefficients of any count.
 // How the words of a list are read is in `words`.
+use crate::backward;
 use crate::print;
 use crate::text;
 use crate::words;
@@ -47,14 +48,14 @@ const O: [u64; 17] = [
 ];
 
 // Three chains, each as a call answers it. One that no call has answered has the number and place of an accepted call.
-struct Stack {
-    top: ChainAnswer,
-    second: ChainAnswer,
-    third: ChainAnswer,
+pub struct Stack {
+    pub top: ChainAnswer,
+    pub second: ChainAnswer,
+    pub third: ChainAnswer,
 }
 
 // The stack with a chain in the place of the uppermost ones that were taken: none, one or two.
-fn placed(s: Stack, top: ChainAnswer, taken: usize) -> Stack {
+pub fn placed(s: Stack, top: ChainAnswer, taken: usize) -> Stack {
     let first = s.top;
     let second = s.second;
     let third = s.third;
@@ -96,7 +97,7 @@ fn of_coefficients(list: &[u64], count: usize) -> ChainAnswer {
 }
 
 // The length of a chain is one less than the words listed, so over 16 from 18 words on.
-fn operand(token: &[u8]) -> ChainAnswer {
+pub fn operand(token: &[u8]) -> ChainAnswer {
     let list = words::list(token);
     let mut elements = list.words;
     let mut length = std::num::wrapping_sub_usize(list.count, 1);
@@ -120,7 +121,7 @@ fn operand(token: &[u8]) -> ChainAnswer {
 }
 
 // The stack after a token. A list of words pushes a chain, and so does m or o with a length. An operator is a single byte: + - * take the
-// two uppermost chains; E shifts the top, T trims it, C takes its words as coefficients and D pushes it again.
+// two uppermost chains; E shifts the top, T trims it, C takes its words as coefficients and D pushes it again. The other letters are in `backward`.
 fn step(s: Stack, token: &[u8]) -> Stack {
     if token.len() != 1 {
         return placed(s, operand(token), 0);
@@ -143,7 +144,7 @@ fn step(s: Stack, token: &[u8]) -> Stack {
             1,
         ),
         b'D' => placed(s, top, 0),
-        _ => placed(s, operand(token), 0),
+        _ => backward::step(s, token),
     }
 }
 

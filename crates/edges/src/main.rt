@@ -1,5 +1,6 @@
 // Runs the cases of the rules and both sides of every limit: one line each, a name, a tab and what the library answers.
 // The cases stand in the file `stdin`, which says how they are written; what they must answer is in the file `stdout`.
+mod backward;
 mod chains;
 mod eras;
 mod formulas;
@@ -25,6 +26,8 @@ fn case(section: u8, line: &[u8], expanded: &[u8]) {
         b's' => chains::sequence(name, body),
         b'l' => chains::list(name, body),
         b't' => eras::turn(name, body),
+        b'b' => backward::value(name, body),
+        b'w' => backward::walk(name, body),
         b'o' => probes::offset(name, body),
         b'f' => formulas::reading(name, text::before(expanded, b'|'), body),
         b'p' => plans::run(line, expanded),

@@ -11,6 +11,7 @@ use lib.Dec.{eqb}
 use lib.ListN.{length}
 use Rattle.chain.specs.Chain.{value, rest, words, withLast, withoutTrailing, trimmed}
 use Rattle.chain.specs.ProductChain as ProductChain
+use Rattle.chain.proofs.Trimming.{trimmed-twice}
 use Rattle.chain.proofs.Rows.{words-whole}
 use Rattle.chain.proofs.Canonical.{canonical}
 use Rattle.formula.specs.Tree.{Tree}
@@ -22,25 +23,6 @@ use Rattle.fold.proofs.Shape.{WellFormed}
 use Rattle.fold.proofs.Tests.{either, shaped, sum-chain-again}
 use Rattle.fold.proofs.Rules.{fold-each}
 use Rattle.fold.proofs.FoldValues.{sum-value, fold-value}
-
--- ---- trimming twice trims once
-twice-with-last : (unit a : ℕ) (f : List ℕ) → withoutTrailing unit f ≡ f → withoutTrailing unit (withLast unit a f) ≡ withLast unit a f
-unfolding withoutTrailing withLast
-twice-with-last unit a [] same = go (eqb a unit) refl
-  where
-    go : (t : Bool) → eqb a unit ≡ t → withoutTrailing unit (cond t [] (a ∷ [])) ≡ cond t [] (a ∷ [])
-    go true e = refl
-    go false e = ap (λ t. cond t [] (a ∷ [])) e
-twice-with-last unit a (b ∷ f) same = ap (withLast unit a) same
-
-twice-without-trailing : (unit : ℕ) (f : List ℕ) → withoutTrailing unit (withoutTrailing unit f) ≡ withoutTrailing unit f
-unfolding withoutTrailing
-twice-without-trailing unit [] = refl
-twice-without-trailing unit (a ∷ f) = twice-with-last unit a (withoutTrailing unit f) (twice-without-trailing unit f)
-
-trimmed-twice : (unit : ℕ) (f : List ℕ) → trimmed unit (trimmed unit f) ≡ trimmed unit f
-unfolding trimmed
-trimmed-twice unit f = ap {B = List ℕ} (λ g. value unit f ∷ g) (twice-without-trailing unit (rest f))
 
 -- ---- a constant or sum chain of a folded tree is trimmed
 abbrev TrimmedSum : Folded → Type 0

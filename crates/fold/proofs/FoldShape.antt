@@ -56,20 +56,20 @@ extent-most zero l = omega arith
 extent-most (suc k) l = omega arith
 
 length-times : (a : ℕ) (below : List ℕ → List ℕ) (k : ℕ) → ((g : List ℕ) (l : ℕ) → length g ≡ suc l → length (below g) ≡ extent k l)
-    → (b : ℕ) (g : List ℕ) → length (SumChain.times a below (b ∷ g)) ≡ suc k + length g
+    → (b : ℕ) (g : List ℕ) → length (SumChain.times SumChain.sumShift a below (b ∷ g)) ≡ suc k + length g
 unfolding SumChain.times
 length-times a below k known b [] =
     ap suc (length-joined _+_ 0 [] (below (SumChain.sumShift (b ∷ []))))
     ∙ omega (arith, known (SumChain.sumShift (b ∷ [])) 0 (length-shift _+_ (b ∷ [])), extent-alone k)
 length-times a below k known b (c ∷ g) =
-    ap suc (length-joined _+_ 0 (SumChain.times a below (c ∷ g)) (below (SumChain.sumShift (b ∷ c ∷ g))))
+    ap suc (length-joined _+_ 0 (SumChain.times SumChain.sumShift a below (c ∷ g)) (below (SumChain.sumShift (b ∷ c ∷ g))))
     ∙ omega (arith, length-times a below k known c g, there, extent-most k (suc (length g)))
   where
     there : length (below (SumChain.sumShift (b ∷ c ∷ g))) ≡ extent k (suc (length g))
     there = known (SumChain.sumShift (b ∷ c ∷ g)) (suc (length g)) (length-shift _+_ (b ∷ c ∷ g))
 
 length-extent : (f g : List ℕ) (l : ℕ) → length g ≡ suc l → length (SumChain.product f g) ≡ extent (length f) l
-unfolding SumChain.product
+unfolding SumChain.productBy
 length-extent [] g l e = refl
 length-extent (a ∷ f) [] l e = absurd (omega arith)
 length-extent (a ∷ f) (b ∷ g) l e = length-times a (SumChain.product f) (length f) (length-extent f) b g ∙ omega arith

@@ -4,6 +4,7 @@ use mathlib.Core.List.{List}
 use Prim.Native.Nat.{ℕ}
 use Rattle.word.proofs.Unique.{both-are}
 use Rattle.chain.specs.Answer.{answered, trimOutcome, sumOutcome, differenceOutcome, productOutcome, shiftAnswer, coefficientsOutcome, valueAnswer}
+use Rattle.chain.specs.BackwardAnswer.{inverseShiftOutcome, backwardShiftOutcome, backwardInverseShiftOutcome, backwardProductOutcome, toBackwardOutcome, toForwardOutcome}
 use Rattle.plan.specs.Filling.{fill, costAnswer, soundAnswer}
 use Rattle.plan.specs.Eras.{fillEras}
 use Rattle.fold.proofs.Promise.{compiling-unique}
@@ -69,6 +70,31 @@ module _ (answer answer′ : List ℕ) where
   pub from-coefficients-unique : (a : List ℕ)
       → let words = chainWords (answered (coefficientsOutcome 64 a)) in answer ≡ words → answer′ ≡ words → answer ≡ answer′
   from-coefficients-unique a = both-are
+
+  -- A backward chain's value and sum are answered as a forward chain's: `value-unique` and `sum-unique` are theirs too.
+  pub inverse-shift-unique : (f : List ℕ) (k : ℕ)
+      → let words = chainWords (answered (inverseShiftOutcome 64 f k)) in answer ≡ words → answer′ ≡ words → answer ≡ answer′
+  inverse-shift-unique f k = both-are
+
+  pub backward-shift-unique : (f : List ℕ) (k : ℕ)
+      → let words = chainWords (answered (backwardShiftOutcome 64 f k)) in answer ≡ words → answer′ ≡ words → answer ≡ answer′
+  backward-shift-unique f k = both-are
+
+  pub backward-inverse-shift-unique : (f : List ℕ) (k : ℕ)
+      → let words = chainWords (answered (backwardInverseShiftOutcome 64 f k)) in answer ≡ words → answer′ ≡ words → answer ≡ answer′
+  backward-inverse-shift-unique f k = both-are
+
+  pub to-backward-unique : (f : List ℕ) (k : ℕ)
+      → let words = chainWords (answered (toBackwardOutcome 64 f k)) in answer ≡ words → answer′ ≡ words → answer ≡ answer′
+  to-backward-unique f k = both-are
+
+  pub to-forward-unique : (f : List ℕ) (k : ℕ)
+      → let words = chainWords (answered (toForwardOutcome 64 f k)) in answer ≡ words → answer′ ≡ words → answer ≡ answer′
+  to-forward-unique f k = both-are
+
+  pub backward-product-unique : (f : List ℕ) (k : ℕ) (g : List ℕ) (l : ℕ)
+      → let words = chainWords (answered (backwardProductOutcome 64 f k g l)) in answer ≡ words → answer′ ≡ words → answer ≡ answer′
+  backward-product-unique f k g l = both-are
 
   pub probe-unique : (reading expected tolerance : ℕ)
       → let words = probeWords (probeAnswer reading expected tolerance) in answer ≡ words → answer′ ≡ words → answer ≡ answer′

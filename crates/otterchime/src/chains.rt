@@ -1,5 +1,6 @@
 // The chain calls of the door. A chain comes as 17 words f and its length k; words past the length are not read.
-// What a call answers is decided in `chain_calls` and `chain_coefficients`; the calls on formulas, plans and readings are in the crate's root.
+// What a call answers is decided in `chain_calls` and `chain_coefficients`. The calls for tables that run backwards are in `backward`, those on formulas, plans
+// and readings in the crate's root.
 use crate::signed_word;
 use chain::ChainAnswer;
 use chain::ShiftAnswer;
@@ -9,7 +10,7 @@ ghost use Rattle.chain.specs.Answer.{answered, trimOutcome, sumOutcome, differe
 ghost use Rattle.otterchime.specs.Answers.{chainAnswerLength, chainWords, shiftAnswerLength, shiftWords, valueWords};
 
 // The words of an answer that is a chain, and where its elements begin.
-const CHAIN_ANSWER: usize = 20;
+pub const CHAIN_ANSWER: usize = 20;
 
 const ANSWER_ELEMENTS: usize = 3;
 
@@ -17,7 +18,7 @@ const ANSWER_ELEMENTS: usize = 3;
 const SHIFT_ANSWER: usize = 21;
 
 // An answer that is a chain: number, place, length, and the elements.
-fn put(r: ChainAnswer, answer: &mut [u64])
+pub fn put(r: ChainAnswer, answer: &mut [u64])
     requires { ⌜ length (now answer) ≡ chainAnswerLength ⌝ }
     ensures { λ _. ⌜ now (answer .exit) ≡ chainWords r ⌝ }
 {

@@ -34,7 +34,7 @@ use Rattle.table_progress.specs.Runs.{Runs}
 -- ---- unfolded all the way
 -- A product of chains, a folded tree, a plan's cost and points, what is judged of a job line, and what a job prints.
 unfoldable pub multiplies : List ℕ → ℕ → List ℕ
-unfolding Chain.shift Chain.joined SumChain.times SumChain.product SumChain.power
+unfolding Chain.shift Chain.joined SumChain.times SumChain.productBy SumChain.power
 multiplies f n = SumChain.power f n
 
 unfoldable pub folds : ℕ → ℕ → Tree → Folded

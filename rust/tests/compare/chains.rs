@@ -6,13 +6,13 @@ use printer::formula::power;
 use printer::random::Random;
 
 /// A chain as it is given, with words past its length that mean nothing.
-struct Given {
-    words: [u64; 17],
-    k: u64,
+pub struct Given {
+    pub words: [u64; 17],
+    pub k: u64,
 }
 
 impl Given {
-    fn random(random: &mut Random) -> Given {
+    pub fn random(random: &mut Random) -> Given {
         let most = random.below(18);
         let mut words = [0; 17];
         for at in words.iter_mut().take(most) {
@@ -23,7 +23,7 @@ impl Given {
         Given { words, k }
     }
 
-    fn elements(&self) -> Result<&[u64], Refusal> {
+    pub fn elements(&self) -> Result<&[u64], Refusal> {
         if self.k > 16 {
             Err(Refusal::ChainTooLong)
         } else {

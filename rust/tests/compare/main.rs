@@ -2,6 +2,8 @@
 //! printed; OTTERCHIME_SEED takes one again, and OTTERCHIME_INPUTS sets how many inputs each test makes.
 #![cfg_attr(not(otterchime_linked), allow(dead_code))]
 #[cfg(otterchime_linked)]
+mod backward;
+#[cfg(otterchime_linked)]
 mod chains;
 #[cfg(otterchime_linked)]
 mod documented;
