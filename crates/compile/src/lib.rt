@@ -1,5 +1,5 @@
 // Compiling: a formula's text on a grid to the plan of its folded tree, or the refusal's number and place.
-// The folding of the nodes one after the other is in `machine`, that of one operator in the crates `fold_sums`, `fold_products` and `fold_powers`.
+// The folding of the nodes one after the other is in `machine`, that of one operator in the crates `fold_sums`, `fold_minus`, `fold_products`, `fold_powers` and `fold_raises`.
 mod machine;
 
 use fold::CompileAnswer;

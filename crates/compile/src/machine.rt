@@ -54,7 +54,7 @@ fn fold_both(plan: &mut [u64], kind: u64, left: usize, middle: usize, end: usize
         3 => fold_sums::fold_sum(plan, SUM, left, middle, end),
         4 => fold_sums::fold_sum(plan, DIFFERENCE, left, middle, end),
         5 => fold_products::fold_product(plan, left, middle, end),
-        _ => fold_powers::fold_raise(plan, left, middle, end),
+        _ => fold_raises::fold_raise(plan, left, middle, end),
     }
 }
 
@@ -88,7 +88,7 @@ fn fold_node(plan: &mut [u64], end: usize, kind: u64, word: u64, start: u64, ste
     }
     let top = first_row(plan, end);
     if kind == MINUS {
-        return fold_sums::fold_minus(plan, top, end);
+        return fold_minus::fold_minus(plan, top, end);
     }
     if kind == LITERAL_POWER {
         return fold_powers::fold_power(plan, top, end, word);

@@ -1,10 +1,10 @@
 // Crossings of an era's end: how a chain crosses in a shift, and fillings of a plan with era count.
 // Chains in postfix are read in `chains`; a plan's rows and other tokens in `plans`, which calls on this for the token e.
-use crate::chains;
 use crate::plans;
-use crate::print;
-use crate::probes;
-use crate::words;
+use edges_calls::chains;
+use edges_calls::probes;
+use edges_print as print;
+use edges_text::words;
 ghost use Prim.Native.Nat.{_≤_};
 ghost use lib.ListN.{length};
 
@@ -21,7 +21,7 @@ pub fn turn(name: &[u8], body: &[u8]) {
 
 // Fills the lent words, and answers the points written: number place points spent sum.
 fn count(plan: &mut [u64], table: &mut [u64], budget: u64) -> usize {
-    let answer = plan_fill::eras::fill_eras(plan, table, budget);
+    let answer = plan_eras::fill_eras(plan, table, budget);
     print::text(b"\teras ");
     print::number(answer.number);
     print::label(print::BLANK);

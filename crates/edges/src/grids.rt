@@ -1,8 +1,8 @@
 // A formula on 36 grids: a line for each grid, with the plan's rows, cost and checksum, and 12 values.
 // The values are filled in one call, and in several uneven ones from a plan that is compiled again; the line says if they differ.
 use crate::plans;
-use crate::print;
-use crate::words;
+use edges_print as print;
+use edges_text::words;
 use plan::PLAN_WORDS;
 
 const MOST: u64 = 18446744073709551615;

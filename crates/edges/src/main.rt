@@ -1,18 +1,17 @@
 // Runs the cases of the rules and both sides of every limit: one line each, a name, a tab and what the library answers.
 // The cases stand in the file `stdin`, which says how they are written; what they must answer is in the file `stdout`.
-mod backward;
-mod chains;
 mod eras;
-mod formulas;
 mod grids;
 mod jobs;
-mod notation;
 mod plans;
-mod print;
-mod probes;
-mod text;
-mod words;
 
+use edges_calls::backward;
+use edges_calls::chains;
+use edges_calls::formulas;
+use edges_calls::probes;
+use edges_print as print;
+use edges_text::notation;
+use edges_text::text;
 use libc::STDIN_FILENO;
 
 // A case is a name and a body with a bar between them. The section's first letter says what they are; a plan, a formula on grids and a

@@ -1,9 +1,9 @@
 // A plan, its soundness, cost and fillings, and formulas compiled to it. The tokens of a line are told at `step`.
 // The calls of the library that `grids` makes as well stand here once. Formulas that are only read are in `formulas`.
 use crate::eras;
-use crate::print;
-use crate::text;
-use crate::words;
+use edges_print as print;
+use edges_text::text;
+use edges_text::words;
 use plan::MOST_ROWS;
 use plan::PLAN_WORDS;
 use plan::ROW_WORDS;
@@ -15,7 +15,7 @@ ghost use Rattle.plan.specs.Measures.{mostRows};
 const ROW_END: usize = 1 + ROW_WORDS;
 
 pub fn cost(plan: &[u64]) -> plan::CostAnswer {
-    plan_fill::cost(plan)
+    plan_costs::cost(plan)
 }
 
 pub fn filled(plan: &mut [u64], table: &mut [u64], budget: u64) -> plan::FillAnswer {

@@ -1,6 +1,7 @@
 -- What an operator leaves in the place of its operands: one row, an operand that stays or moves down, or the operator's row behind them.
 use mathlib.Core.Path.{_≡_, refl, sym, ap, ap₂, subst, _∙_}
 use mathlib.Core.Bool.{true, cond}
+use mathlib.Core.Logic.{_⊎_, inl, inr}
 use mathlib.Core.List.{List, [], _∷_}
 use Prim.Native.Nat.{ℕ, suc, _+_, _-_, _≤_, _<_}
 use native.Mathlib.Omega.{arith}
@@ -147,3 +148,8 @@ module _ {p : List ℕ} {left middle end : ℕ} {a b : Folded} (o : Operands p l
     pub raise-row-left : q ≡ withRow p end (rowWords 8 (middle - 1) (end - 1) []) → Left p left (raiseRow a b) (end + 1) q
     unfolding rowCount
     raise-row-left = row-left 8 refl (raise-row-placed p left end a room (o .first .stands) b right-stands place)
+
+-- Two ways to one place.
+pub either-way : {A B C D : Type 0} → A ⊎ B → (A → C) → (B → D) → C ⊎ D
+either-way (inl a) f g = inl (f a)
+either-way (inr b) f g = inr (g b)

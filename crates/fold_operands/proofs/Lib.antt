@@ -2,3 +2,4 @@
 pub mod OperandLaws
 pub mod Leaving
 pub mod OnesTrimmed
+pub mod CallsOnRows

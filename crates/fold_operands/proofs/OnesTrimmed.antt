@@ -40,6 +40,9 @@ map-filled h e zero f = refl
 map-filled h e (suc n) f =
     ap₂ {B = List ℕ} {C = List ℕ} _∷_ (sym (value-map h 1 1 e f)) (map-filled h e n (rest f) ∙ ap (filledWithOnes n) (sym (rest-map h f)))
 
+pub short-map : (h : ℕ → ℕ) (f : List ℕ) → length f ≤ 17 → length (map h f) ≤ 17
+short-map h f short = rw (length-map f h) short
+
 -- What 17 words filled with ones trim to.
 pub words-trimmed : {g : List ℕ} (f : List ℕ) → length f ≤ 17 → g ≡ filledWithOnes 17 f
     → trimmedProduct (words 64 g) ≡ trimmedProduct (words 64 f)

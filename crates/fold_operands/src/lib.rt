@@ -1,5 +1,5 @@
 // Words of the rows of operands that stand in a lent plan: read for the tests of the folding rules, written for what the rules leave.
-// Which rule applies, and what it leaves, is decided in the crates `fold_sums`, `fold_products` and `fold_powers`.
+// Which rule applies, and what it leaves, is decided in the crates `fold_sums`, `fold_minus`, `fold_products`, `fold_powers` and `fold_raises`.
 use chain::ChainAnswer;
 use plan::ELEMENTS_START;
 use plan_rows::kinds::CONSTANT;

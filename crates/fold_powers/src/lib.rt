@@ -1,5 +1,5 @@
-// Literal powers and raises of operands that stand at the top of a lent plan.
-// Which node is one of them is decided in `compile`; sums and products are in `fold_sums` and `fold_products`.
+// Literal powers of operands that stand at the top of a lent plan.
+// Which node is one of them is decided in `compile`; raises are in `fold_raises`, sums and products in `fold_sums` and `fold_products`.
 use chain::ChainAnswer;
 use chain_arrays::Operation;
 use chain_arrays::accepted;
@@ -14,7 +14,6 @@ use fold_rows::product_rows;
 use plan_rows::kinds::CONSTANT;
 use plan_rows::kinds::LITERAL_POWER;
 use plan_rows::kinds::PRODUCT_CHAIN;
-use plan_rows::kinds::RAISE;
 use plan_rows::kinds::SUM_CHAIN;
 ghost use mathlib.Core.Path.{_≡_};
 ghost use Prim.Native.Nat.{_+_, _-_, _*_, _≤_, _<_};
@@ -25,8 +24,8 @@ ghost use Rattle.plan.specs.Plan.{row};
 ghost use Rattle.chain.specs.Chain.{words, trimmed};
 ghost use Rattle.chain.specs.SumChain.{power};
 ghost use Rattle.chain.specs.Answer.{answered, chain};
-ghost use Rattle.fold.specs.Folding.{foldPower, foldRaise};
-ghost use Rattle.fold_operands.specs.Operands.{One, Two, Folds, FoldsBoth};
+ghost use Rattle.fold.specs.Folding.{foldPower};
+ghost use Rattle.fold_operands.specs.Operands.{One, Folds};
 
 // The chain f of length k to the n, trimmed.
 fn power_of(f: [u64; 17], k: usize, n: u64) -> ChainAnswer
@@ -89,27 +88,4 @@ pub fn fold_power(plan: &mut [u64], first: usize, end: usize, n: u64) -> usize
         return end;
     }
     fold_high_power(plan, first, end, n)
-}
-
-// The operand before row middle to the one behind it: "C by C worked out; C by S becomes a product chain with elements C^fj."
-pub fn fold_raise(plan: &mut [u64], left: usize, middle: usize, end: usize) -> usize
-    requires { ⌜ planLength ≤ length (now plan) ⌝ }
-    requires { ⌜ end < mostRows ⌝ }
-    requires { ⌜ Two (now plan) left middle end ⌝ }
-    ensures { λ r. ⌜ FoldsBoth (foldRaise 64) (now (plan .entry)) left middle end r (now (plan .exit)) ⌝ }
-{
-    let base_root = middle - 1;
-    let exponent_root = end - 1;
-    let base = kind(plan, base_root);
-    let exponent = kind(plan, exponent_root);
-    if base == CONSTANT {
-        if exponent < PRODUCT_CHAIN {
-            let c = first_element(plan, base_root);
-            let f = fold_rows::elements(plan, exponent_root);
-            product_rows::put_product(plan, left, word_by_word(Operation::Power, [c; 17], f));
-            return left + 1;
-        }
-    }
-    append(plan, end, RAISE, base_root as u64, exponent_root as u64);
-    end + 1
 }

@@ -7,7 +7,7 @@ use native.Mathlib.Nat.{one-mul, mul-one, mul-zero, zero-mul, mod-eq-of-lt}
 use native.Mathlib.Omega.{arith}
 use lib.Dec.{eqb, leb}
 use lib.ListN.{length, length-map}
-use borrow.Author.Tests.{eqb-true, leb-true, leb-false, le-leb, lt-leb}
+use borrow.Author.Tests.{eqb-true, leb-true, le-leb}
 use Rattle.chain.specs.Chain.{words, trimmed, withoutTrailing}
 use Rattle.chain.specs.SumChain.{sumAt, scaled, product}
 use Rattle.chain.specs.ProductChain.{jointProduct}
@@ -24,17 +24,6 @@ use Rattle.fold.proofs.Tests.{shaped, either}
 use Rattle.fold_rows.proofs.Stood.{kindOf, constant-test, sum-chain-test, product-chain-test}
 use Rattle.fold_operands.proofs.OperandLaws.{chain-operand, is-the-constant, Sum, one, several, sum-operand}
 use Rattle.fold_products.proofs.JointElements.{constant-joint, joint-constant}
-
--- ---- lengths that add to 16 at most
-pub sums-over : (k l : ℕ) → 16 < k → false ≡ leb (k + l) 16
-sums-over k l h = sym (lt-leb (k + l) 16 (omega arith))
-
-pub sums-within : (k l : ℕ) → k ≤ 16 → leb l (16 - k) ≡ leb (k + l) 16
-sums-within k l h = go (leb l (16 - k)) refl
-  where
-    go : (t : Bool) → leb l (16 - k) ≡ t → t ≡ leb (k + l) 16
-    go true e = sym (le-leb (k + l) 16 (omega (arith, leb-true l (16 - k) e)))
-    go false e = sym (lt-leb (k + l) 16 (omega (arith, leb-false l (16 - k) e)))
 
 -- ---- operands that the rules speak of
 -- A constant or a product chain, by its kind.

@@ -1,3 +1,3 @@
--- What the rules say of sums, differences and minus, and what the code leaves by them.
+-- What the rules say of sums and differences, and what the code leaves by them.
 pub mod SumRules
 pub mod SumOperands

@@ -1,87 +1,30 @@
--- Sums, differences and minus of operands that stand in a plan: what the code leaves is what the rules say.
+-- Sums and differences of operands that stand in a plan: what the code leaves is what the rules say.
 use mathlib.Core.Path.{_≡_, sym, ap, ap₂, _∙_}
 use mathlib.Core.Bool.{Bool, true, false, cond, _&&_, and-eq-true-iff}
 use mathlib.Core.List.{List, [], _∷_, _++_}
 use Prim.Native.Nat.{ℕ, _+_, _-_, _≤_, _<_}
 use native.Mathlib.Omega.{arith}
 use lib.Dec.{eqb, ltb}
-use lib.ListN.{length, getD, take, set}
+use lib.ListN.{length}
 use borrow.Author.Tests.{ltb-true}
 use Rattle.plan.specs.Measures.{rowStart}
-use Rattle.word.specs.Word as Word
 use Rattle.chain.specs.Chain.{trimmed, row}
-use Rattle.chain.specs.SumChain.{difference}
-use Rattle.chain.specs.ProductChain as ProductChain
 use Rattle.chain.specs.declared.ChainAnswer.{ChainAnswer}
-use Rattle.chain.specs.Answer.{answered, differenceOutcome}
+use Rattle.chain.specs.Answer.{answered}
 use Rattle.plan.specs.Row as Row
 use Rattle.plan.specs.Row.{wordA, elements}
 use Rattle.plan.specs.Plan as Plan
 use Rattle.fold.specs.Folded as Folded
-use Rattle.fold.specs.Folded.{Folded, trimmedProduct}
-use Rattle.fold.specs.Folding.{wordOf, is, foldMinus}
+use Rattle.fold.specs.Folded.{Folded}
+use Rattle.fold.specs.Folding.{is}
 use Rattle.fold.specs.Layout.{rowCount, rowWords, rowsFrom, wordsOf}
-use Rattle.fold_rows.specs.Standing.{withRow, placed, filledWithOnes, movedDown}
+use Rattle.fold_rows.specs.Standing.{withRow, placed, movedDown}
 use Rattle.fold_rows.proofs.Stood.{kindOf, sum-test, length-words, words-before, words-later, placed-again}
 use Rattle.fold_operands.specs.Operands.{Operand, Operands, Left, Folds}
-use Rattle.fold_operands.proofs.OperandLaws.{constantAt, operand-kind, operand-last, operand-elements, operand-chain, operand-taken, operand-is, sum-operand}
-use Rattle.fold_operands.proofs.Leaving.{left-as, left-operand, sum-left, product-left, answer-put, minus-row-left, stays, moves, sum-row-left, difference-row-left}
+use Rattle.fold_operands.proofs.OperandLaws.{constantAt, operand-kind, operand-last, operand-elements, operand-chain, operand-is, sum-operand}
+use Rattle.fold_operands.proofs.Leaving.{left-as, left-operand, sum-left, answer-put, stays, moves, sum-row-left, difference-row-left}
 use Rattle.fold_sums.specs.ByKind.{SumOrDifference, plus, less, foldSumOrDifference, chainOfBoth, bothOutcome, foldAlone, rowOfBoth}
-use Rattle.fold_sums.proofs.SumRules.{both-answer, both-rule, both-otherwise, alone-rows, minus-rule, minus-otherwise}
-use Rattle.fold_sums.proofs.SumRules.{minus-product, filled-first, first-replaced}
-
--- ---- fold_minus
-module _ {p : List ℕ} {first end : ℕ} (a : Folded) (o : Operand p first end a) where
-  pub leaves-negated : {z f : List ℕ} {k : ℕ} {answer : ChainAnswer} {q : List ℕ} → Row.kind (Plan.row p (end - 1)) < 2
-      → z ≡ row 17 [] → f ≡ elements (Plan.row p (end - 1)) → k ≡ wordA (Plan.row p (end - 1))
-      → answer ≡ answered (differenceOutcome 64 z 0 f k)
-      → q ≡ withRow p first (cond (eqb (answer .length) 0) 0 1 ∷ (answer .length) ∷ 0 ∷ (answer .elements))
-      → Left p first (foldMinus 64 a) (first + 1) q
-  unfolding row
-  leaves-negated small ez ef ek ea put =
-      left-as (minus-rule 64 (sum-operand a low) (operand-chain o few .some))
-      (sum-left (trimmed 0 negated)
-      (answer-put p first negated
-      (ea
-      ∙ (λ i. answered (differenceOutcome 64 (ez i) 0 ((ef ∙ operand-elements o few) i) ((ek ∙ operand-last o few) i)))
-      ∙ ap answered (both-answer 64 less (0 ∷ []) (Folded.elements a) (record { some = omega arith; most = omega arith }) (operand-chain o few)))
-      put))
-    where
-      low : kindOf a < 2
-      low = omega (arith, operand-kind o)
-
-      few : kindOf a ≤ 2
-      few = omega (arith, low)
-
-      negated : List ℕ
-      negated = difference 64 (0 ∷ []) (Folded.elements a)
-
-  pub leaves-first-negated : {f e : List ℕ} {k v : ℕ} {q : List ℕ} → Row.kind (Plan.row p (end - 1)) ≡ 2
-      → e ≡ elements (Plan.row p (end - 1)) → k ≡ wordA (Plan.row p (end - 1)) → f ≡ filledWithOnes 17 (take (k + 1) e)
-      → v ≡ Word.negation 64 (getD f 0 0) → q ≡ placed p first (trimmedProduct (set f 0 v))
-      → Left p first (foldMinus 64 a) (first + 1) q
-  leaves-first-negated {f} {e} {k} {v} two ee ek ef ev put =
-      left-as (sym same) (product-left (ProductChain.trimmedProduct (set f 0 v)) put)
-    where
-      chained : kindOf a ≡ 2
-      chained = sym (operand-kind o) ∙ two
-
-      few : kindOf a ≤ 2
-      few = omega (arith, chained)
-
-      filled : f ≡ filledWithOnes 17 (Folded.elements a)
-      filled = ef ∙ ap (filledWithOnes 17) (operand-taken o few ee ek)
-
-      same : trimmedProduct (set f 0 v) ≡ foldMinus 64 a
-      same =
-          ap₂ (λ l x. trimmedProduct (set l 0 x)) filled
-          (ev ∙ ap (Word.negation 64) (ap (λ l. getD l 0 0) filled ∙ filled-first (Folded.elements a) (operand-chain o few)))
-          ∙ first-replaced (Word.negation 64 (wordOf a)) (Folded.elements a) (operand-chain o few)
-          ∙ sym (minus-product 64 a chained)
-
-  pub leaves-minus : {q : List ℕ} → rowStart first ≤ length p → 2 < Row.kind (Plan.row p (end - 1))
-      → q ≡ withRow p end (rowWords 6 (end - 1) 0 []) → Left p first (foldMinus 64 a) (end + 1) q
-  leaves-minus room other put = left-as (minus-otherwise 64 a (omega (arith, operand-kind o))) (minus-row-left o room put)
+use Rattle.fold_sums.proofs.SumRules.{both-answer, both-rule, both-otherwise, alone-rows}
 
 -- A tree put over another one of no more rows.
 placed-over : (p : List ℕ) (n : ℕ) (a b : Folded) → rowStart n ≤ length p → rowCount a ≤ rowCount b

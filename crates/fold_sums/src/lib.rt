@@ -1,15 +1,13 @@
 // Sums and differences of operands that stand at the top of a lent plan, as one operator by the kind of its row.
-// Minus is in `minus`; which operator a node is, is decided in `compile`.
-mod minus;
-
+// Minus is in `fold_minus`; which operator a node is, is decided in `compile`.
 use chain::ChainAnswer;
+use fold_minus::fold_minus;
 use fold_operands::append;
 use fold_operands::is_constant;
 use fold_operands::kind;
 use fold_operands::length_of;
 use fold_operands::put_sum;
 use fold_rows::moved_rows;
-pub use minus::fold_minus;
 use plan_rows::kinds::PRODUCT_CHAIN;
 use plan_rows::kinds::SUM;
 ghost use mathlib.Core.Path.{_≡_};

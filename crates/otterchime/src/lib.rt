@@ -55,7 +55,7 @@ pub extern "C" fn otterchime_fill_eras(
     ensures { λ _. ⌜ now (table .exit) ≡ fillEras 64 (now (plan .entry)) (now (table .entry)) budget .table ⌝ }
     ensures { λ _. ⌜ now (plan .exit) ≡ fillEras 64 (now (plan .entry)) (now (table .entry)) budget .plan ⌝ }
 {
-    let r = plan_fill::eras::fill_eras(plan, table, budget);
+    let r = plan_eras::fill_eras(plan, table, budget);
     let sum = r.sum;
     *answer = [
         r.number,
@@ -71,7 +71,7 @@ pub extern "C" fn otterchime_fill_eras(
 pub extern "C" fn otterchime_cost(plan: &[u64], answer: &mut [u64; 3])
     ensures { λ _. ⌜ now (answer .exit) ≡ costWords (costAnswer (now (plan .entry))) ⌝ }
 {
-    let r = plan_fill::cost(plan);
+    let r = plan_costs::cost(plan);
     *answer = [r.number, r.place, r.cost];
 }
 

@@ -1,38 +1,16 @@
-// Plans for callers: what a plan costs, and filling a table by it. Any words may be lent.
-// Whether a plan is sound is checked in `plan_sound`, cost is in `costs`, the work of a point in `plan_fill::points`, filling with era count in `eras`; formulas live above.
-mod costs;
-pub mod eras;
-mod points;
-
-use plan::CostAnswer;
+// Filling a table by a plan, for callers. Any words may be lent.
+// Whether a plan is sound is checked in `plan_sound`, cost is in `plan_costs`, the work of a point in `plan_points`, filling with era count in `plan_eras`; formulas live above.
 use plan::FillAnswer;
 use plan::MOST_ROWS;
+use plan_costs::lesser;
 use plan_sound::refusal;
 ghost use mathlib.Core.Path.{_≡_};
 ghost use mathlib.Core.Bool.{true};
-ghost use Prim.Native.Nat.{_≤_, min};
+ghost use Prim.Native.Nat.{_≤_};
 ghost use lib.ListN.{length};
 ghost use Rattle.plan.specs.Measures.{planLength, mostRows};
 ghost use Rattle.plan.specs.Plan.{sound};
-ghost use Rattle.plan.specs.Filling.{planAfter, pointValues, fill, costAnswer};
-
-pub fn cost(plan: &[u64]) -> CostAnswer
-    ensures { λ r. ⌜ r ≡ costAnswer (now (plan .entry)) ⌝ }
-{
-    let number = refusal(plan);
-    if number != 0 {
-        return CostAnswer {
-            number,
-            place: 0,
-            cost: 0,
-        };
-    }
-    CostAnswer {
-        number: 0,
-        place: 0,
-        cost: costs::plan_cost(plan),
-    }
-}
+ghost use Rattle.plan.specs.Filling.{planAfter, pointValues, fill};
 
 // One point for each word of the table: the root's value, and then a shift of every chain. The lent values are scratch.
 fn fill_points(plan: &mut [u64], table: &mut [u64], values: &mut [u64])
@@ -44,8 +22,8 @@ fn fill_points(plan: &mut [u64], table: &mut [u64], values: &mut [u64])
 {
     let mut i = 0;
     while i < table.len() {
-        table[i] = points::root_value(plan, values);
-        points::shift_plan(plan);
+        table[i] = plan_points::root_value(plan, values);
+        plan_points::shift_plan(plan);
         i += 1;
     }
 }
@@ -58,15 +36,6 @@ fn fill_table(plan: &mut [u64], table: &mut [u64])
 {
     let mut values = [0; MOST_ROWS];
     fill_points(plan, table, &mut values);
-}
-
-fn lesser(a: usize, b: usize) -> usize
-    ensures { λ r. ⌜ r ≡ min a b ⌝ }
-{
-    if a < b {
-        return a;
-    }
-    b
 }
 
 // As many points as the table has room and the budget pays for. A refused call changes nothing.
@@ -84,7 +53,7 @@ pub fn fill(plan: &mut [u64], table: &mut [u64], budget: u64) -> FillAnswer
             spent: 0,
         };
     }
-    let point_cost = costs::plan_cost(plan) + 1;
+    let point_cost = plan_costs::plan_cost(plan) + 1;
     let points = lesser(table.len(), (budget / point_cost) as usize);
     fill_table(plan, &mut table[0..points]);
     let spent = points as u64 * point_cost;

@@ -1,5 +1,5 @@
 // The table of row kinds, used by soundness and cost alike.
-// What a row's own words add to it is in the crate's root, and in `plan_fill`.
+// What a row's own words add to it is in the crate's root, and in `plan_costs` and `plan_points`.
 use plan::Kind;
 ghost use mathlib.Core.Path.{_≡_};
 ghost use Prim.Native.Nat.{_<_};

@@ -1,13 +1,11 @@
 // Whether a plan is sound, row by row, for callers. Any words may be lent.
-// What is asked of one row is in `plan_sound::row_checks`; what a sound plan costs and fills is in `plan_fill`.
-mod row_checks;
-
-use crate::row_checks::all_zero;
-use crate::row_checks::keeps_table;
-use crate::row_checks::odd_constant;
+// What is asked of one row is in `plan_row_checks`; what a sound plan costs and fills is in `plan_costs` and the crates above it.
 use plan::MOST_ROWS;
 use plan::PLAN_WORDS;
 use plan::SoundAnswer;
+use plan_row_checks::all_zero;
+use plan_row_checks::keeps_table;
+use plan_row_checks::odd_constant;
 use plan_rows::kinds::RAISE;
 use plan_rows::row;
 ghost use mathlib.Core.Path.{_≡_};

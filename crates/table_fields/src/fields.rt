@@ -1,5 +1,5 @@
 // Fields of a line of a job file: where they begin and end, how many there are, and whose field is taken.
-// What is judged of a line is in `table_fields::line_checks`; what a line prints, and how lines are found in the input, is in the crates above.
+// What is judged of a line is in `table_line_checks`; what a line prints, and how lines are found in the input, is in the crates above.
 use bytes::scan;
 ghost use mathlib.Core.Path.{_≡_};
 ghost use Prim.Native.Nat.{_+_, _≤_};

@@ -1,7 +1,5 @@
 // A job printed into a lent buffer: the formula compiled, its points filled, and its lines written.
 // Which line is a job, and which of its fields are whose, is decided in `table_lines` and `table_fields`.
-pub mod job_lines;
-
 use table::JobLine;
 ghost use mathlib.Core.Path.{_≡_};
 ghost use Prim.Native.Nat.{_+_, _*_, _≤_};
@@ -21,10 +19,10 @@ fn print_plan(n: u64, plan: &mut [u64], table: &mut [u64], out: &mut [u8]) -> us
     ensures { λ _. ⌜ now (plan .exit) ≡ planAfter 64 (length (now (table .entry))) (now (plan .entry)) ⌝ }
     ensures { λ _. ⌜ now (table .exit) ≡ pointValues 64 (length (now (table .entry))) (now (plan .entry)) ⌝ }
 {
-    let cost = plan_fill::cost(plan);
-    let at = job_lines::write_job_line(out, n, plan[0], cost.cost);
+    let cost = plan_costs::cost(plan);
+    let at = table_job_lines::write_job_line(out, n, plan[0], cost.cost);
     plan_fill::fill(plan, table, u64::MAX);
-    job_lines::write_points(out, at, table)
+    table_job_lines::write_points(out, at, table)
 }
 
 // Job n as it was judged, with the formula taken: what it prints from place 0 on. Answers the place behind it.
@@ -44,11 +42,11 @@ pub fn print_job(
         (now (plan .exit)) (now (table .exit)) (now (out .exit)) ⌝ }
 {
     if !job.ok {
-        return job_lines::write_no_line(out, n, 11, job.place);
+        return table_job_lines::write_no_line(out, n, 11, job.place);
     }
     let answer = compile::compile(formula, job.start, job.step, plan);
     if answer.number != 0 {
-        return job_lines::write_no_line(out, n, answer.number, answer.place);
+        return table_job_lines::write_no_line(out, n, answer.number, answer.place);
     }
     let count = job.count as usize;
     print_plan(n, plan, &mut table[0..count], out)

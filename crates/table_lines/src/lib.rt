@@ -2,8 +2,6 @@
 // How lines are found in the input is for `table_steps`.
 use plan::PLAN_WORDS;
 use table_fields::fields;
-use table_fields::line_checks;
-use table_jobs::job_lines;
 use table_progress::Awaited;
 use table_progress::LineDone;
 use table_progress::Progress;
@@ -38,7 +36,7 @@ fn end_header(line: &[u8], out: &mut [u8]) -> LineDone
     ensures { λ r. ⌜ r .progress ≡ progressBy Header 0 0 (now (line .entry)) ⌝ }
     ensures { λ r. ⌜ Wrote (now (out .entry)) 0 (linePrints theHeader (now (line .entry))) (r .wrote) (now (out .exit)) ⌝ }
 {
-    if line_checks::is_header(line) {
+    if table_line_checks::is_header(line) {
         return LineDone {
             progress: Progress {
                 awaited: Awaited::Defaults,
@@ -49,7 +47,7 @@ fn end_header(line: &[u8], out: &mut [u8]) -> LineDone
             wrote: 0,
         };
     }
-    let wrote = job_lines::write_no_line(out, 0, 12, 0);
+    let wrote = table_job_lines::write_no_line(out, 0, 12, 0);
     LineDone {
         progress: ended(),
         wrote,
@@ -64,9 +62,9 @@ fn end_defaults(line: &[u8], defaults: &mut [u8], out: &mut [u8]) -> LineDone
     ensures { λ r. ⌜ Wrote (now (out .entry)) 0 (linePrints theDefaults (now (line .entry))) (r .wrote) (now (out .exit)) ⌝ }
     ensures { λ _. ⌜ now (defaults .exit) ≡ defaultsAfter theDefaults (now (line .entry)) (now (defaults .entry)) ⌝ }
 {
-    let judged = line_checks::judge_defaults(line);
+    let judged = table_line_checks::judge_defaults(line);
     if !judged.ok {
-        let wrote = job_lines::write_no_line(out, 0, 11, judged.place);
+        let wrote = table_job_lines::write_no_line(out, 0, 11, judged.place);
         return LineDone {
             progress: ended(),
             wrote,
@@ -100,7 +98,7 @@ fn end_job<'a>(
     ensures { λ _. ⌜ now (plan .exit) ≡ planAfterLine (aJob (now (defaults .entry)) n) (now (line .entry)) (now (plan .entry)) ⌝ }
     ensures { λ _. ⌜ now (table .exit) ≡ tableAfterLine (aJob (now (defaults .entry)) n) (now (line .entry)) (now (table .entry)) ⌝ }
 {
-    let judged = line_checks::judge_job(line, defaults);
+    let judged = table_line_checks::judge_job(line, defaults);
     let formula = fields::pick(line, defaults, 1);
     table_jobs::print_job(
         n,
@@ -164,8 +162,8 @@ pub fn end_input(awaited: Awaited, out: &mut [u8]) -> usize
     ensures { λ r. ⌜ ((n kept : ℕ) (buffer : List ℕ) → Wrote (now (out .entry)) 0 (endPrints (awaitedBy awaited n kept buffer)) r (now (out .exit))) ⌝ }
 {
     match awaited {
-        Awaited::Header => job_lines::write_no_line(out, 0, 12, 0),
-        Awaited::Defaults => job_lines::write_no_line(out, 0, 11, 0),
+        Awaited::Header => table_job_lines::write_no_line(out, 0, 12, 0),
+        Awaited::Defaults => table_job_lines::write_no_line(out, 0, 11, 0),
         Awaited::Job => 0,
         Awaited::Nothing => 0,
     }

@@ -3,9 +3,9 @@ use mathlib.Core.Path.{_∙_}
 use native.Mathlib.Omega.{arith}
 use Rattle.chain_arrays.proofs.Paired.{powers-by-word}
 use Rattle.fold_operands.proofs.OperandLaws.{operand-some, operand-short}
-use Rattle.fold_operands.proofs.Leaving.{room-of-one}
+use Rattle.fold_operands.proofs.Leaving.{room-of-one, either-way}
 use Rattle.fold_powers.proofs.PowerChains.{times-fits}
-use Rattle.fold_powers.proofs.PowerOperands.{power-of-product, power-of-sum, power-as-row, either-way}
+use Rattle.fold_powers.proofs.PowerOperands.{power-of-product, power-of-sum, power-as-row}
 use borrow.Author.Needs.{needs}
 use Rattle.fold_powers.proofs.fold_high_power.Statement.{statement}
 use Rattle.fold_powers.proofs.fold_high_power.Tie as tie

@@ -1,4 +1,4 @@
--- `otterchime_fill_eras` lays out what `plan_fill::eras::fill_eras` answers, with the word of its sum, and leaves table and plan as it does.
+-- `otterchime_fill_eras` lays out what `plan_eras::fill_eras` answers, with the word of its sum, and leaves table and plan as it does.
 use mathlib.Core.Path.{ap, _∙_}
 use mathlib.Core.List.{List, [], _∷_}
 use Prim.Native.Nat.{ℕ}

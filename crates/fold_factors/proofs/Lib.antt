@@ -1,0 +1,2 @@
+-- What the tests of two factors say of their lengths.
+pub mod SumLengths
