@@ -1,3 +1,4 @@
--- Laws of digits, and of where the parts of a tree stand in its text. The laws of the grammar are in `formula_scan`.
+-- Laws of digits, of a text's marks, and of where the parts of a tree stand. The laws of the grammar are in `formula_scan`.
 pub mod DigitLists
+pub mod TextMarks
 pub mod Places

@@ -1,38 +1,39 @@
--- Where the parts of a tree stand in its text: places lie inside the text, a base stands left of its ^, and each node has a byte.
-use mathlib.Core.Path.{_≡_}
+-- Where the parts of a tree stand among its marks, whose places rise: inside the text, a base left of its ^, and each node has a byte.
 use mathlib.Core.List.{List, [], _∷_, _++_}
 use Prim.Native.Nat.{ℕ, suc, _+_, _≤_, _<_}
 use native.Mathlib.Nat.{le-trans}
 use native.Mathlib.Omega.{arith}
 use lib.ListN.{length, length-append}
 use Rattle.formula.specs.Bytes.{openBracket, closeBracket, star, plusSign, minusSign, caret}
+use Rattle.formula.specs.Marks.{Mark, mark, marked}
 use Rattle.formula.specs.Tree.{Tree, number, variable, sum, difference, product, minus, literalPower, raise, nodes}
 use Rattle.formula.specs.Grammar.{Number, nought, digits, Sort, anAtom, Means, one-product, joined-by-plus, joined-by-minus, one-factor, joined-by-star, a-power, leading-minus, an-atom, to-a-number, to-a-sum, a-number, an-x, in-brackets, Formula}
 use Rattle.formula.specs.Refusals.{Part, itself, sum-left, sum-right, difference-left, difference-right, product-left, product-right, under-minus, under-power, in-base, in-exponent}
+use Rattle.formula.proofs.TextMarks.{marked-length, Rising, next-mark, rising-within, rising-upto, rising-parts, marked-rises}
 
 -- ---- nodes and bytes
-join-fits : {a b : ℕ} (s r : List ℕ) (c : ℕ) → a ≤ length s → b ≤ length r → a + b + 1 ≤ length (s ++ c ∷ r)
+join-fits : {a b : ℕ} (s r : List Mark) (c : Mark) → a ≤ length s → b ≤ length r → a + b + 1 ≤ length (s ++ c ∷ r)
 join-fits s r c p q = simp length-append (omega arith)
 
-number-fits : {s : List ℕ} {v : ℕ} → Number s v → 1 ≤ length s
+number-fits : {ds : List ℕ} {v : ℕ} → Number ds v → 1 ≤ length ds
 number-fits nought = omega arith
 number-fits (digits low high rest) = omega arith
 
-pub nodes-fit : {sort : Sort} {at : ℕ} {s : List ℕ} {t : Tree} → Means sort at s t → nodes t ≤ length s
+pub nodes-fit : {sort : Sort} {s : List Mark} {t : Tree} → Means sort s t → nodes t ≤ length s
 unfolding nodes
 nodes-fit (one-product M) = nodes-fit M
-nodes-fit (joined-by-plus {s = s} {r} M e N) = join-fits s r plusSign (nodes-fit M) (nodes-fit N)
-nodes-fit (joined-by-minus {s = s} {r} M e N) = join-fits s r minusSign (nodes-fit M) (nodes-fit N)
+nodes-fit (joined-by-plus p {s} {r} M N) = join-fits s r (mark p plusSign) (nodes-fit M) (nodes-fit N)
+nodes-fit (joined-by-minus p {s} {r} M N) = join-fits s r (mark p minusSign) (nodes-fit M) (nodes-fit N)
 nodes-fit (one-factor M) = nodes-fit M
-nodes-fit (joined-by-star {s = s} {r} M e N) = join-fits s r star (nodes-fit M) (nodes-fit N)
+nodes-fit (joined-by-star p {s} {r} M N) = join-fits s r (mark p star) (nodes-fit M) (nodes-fit N)
 nodes-fit (a-power M) = nodes-fit M
 nodes-fit (leading-minus M) = omega (arith, nodes-fit M)
 nodes-fit (an-atom M) = nodes-fit M
-nodes-fit (to-a-number {s = s} {r} M e N) = simp length-append (omega (arith, nodes-fit M))
-nodes-fit (to-a-sum {s = s} {r} M e later N) = simp length-append (omega (arith, nodes-fit M, nodes-fit N))
-nodes-fit (a-number N) = number-fits N
+nodes-fit (to-a-number p first M N) = simp length-append (omega (arith, nodes-fit M))
+nodes-fit (to-a-sum p opens closes M N) = simp length-append (omega (arith, nodes-fit M, nodes-fit N))
+nodes-fit (a-number {p} {ds} N) = omega (arith, number-fits N, marked-length p ds)
 nodes-fit an-x = omega arith
-nodes-fit (in-brackets M) = simp length-append (omega (arith, nodes-fit M))
+nodes-fit (in-brackets closes M) = simp length-append (omega (arith, nodes-fit M))
 
 some-node : (t : Tree) → 1 ≤ nodes t
 unfolding nodes
@@ -45,67 +46,94 @@ some-node (minus a) = omega arith
 some-node (literalPower a p n) = omega arith
 some-node (raise a p b) = omega arith
 
-pub some-byte : {sort : Sort} {at : ℕ} {s : List ℕ} {t : Tree} → Means sort at s t → 1 ≤ length s
+pub some-byte : {sort : Sort} {s : List Mark} {t : Tree} → Means sort s t → 1 ≤ length s
 some-byte {t = t} M = le-trans (some-node t) (nodes-fit M)
 
--- ---- `Stands at s u`: u stands, as the grammar made it, inside the text s that stands at that place
-data Made : ℕ → List ℕ → Tree → Type 0 where
-  a-number-made : {at : ℕ} {s : List ℕ} {v : ℕ} → Number s v → Made at s (number at v)
-  an-x-made : {at : ℕ} {s : List ℕ} → Made at s variable
-  a-sum-made : {at : ℕ} {s : List ℕ} {a b : Tree} → Made at s (sum a b)
-  a-difference-made : {at : ℕ} {s : List ℕ} {a b : Tree} → Made at s (difference a b)
-  a-product-made : {at : ℕ} {s : List ℕ} {a b : Tree} → Made at s (product a b)
-  a-minus-made : {at : ℕ} {s : List ℕ} {a : Tree} → Made at s (minus a)
-  a-power-made : {at p n : ℕ} {s : List ℕ} (r : List ℕ) {a : Tree} → Means anAtom at r a → p ≡ at + length r → suc p < at + length s
-      → Made at s (literalPower a p n)
-  a-raise-made : {at p : ℕ} {s : List ℕ} (r : List ℕ) {a b : Tree} → Means anAtom at r a → p ≡ at + length r → suc p < at + length s
-      → Made at s (raise a p b)
+-- ---- `Made at end u`: u, as the grammar made it of marks whose places rise from `at` on and are below `end`
+data Made (at end : ℕ) : Tree → Type 0 where
+  a-number-made : {p v : ℕ} → at ≤ p → p < end → Made at end (number p v)
+  an-x-made : Made at end variable
+  a-sum-made : {a b : Tree} → Made at end (sum a b)
+  a-difference-made : {a b : Tree} → Made at end (difference a b)
+  a-product-made : {a b : Tree} → Made at end (product a b)
+  a-minus-made : {a : Tree} → Made at end (minus a)
+  a-power-made : {p n : ℕ} {s : List Mark} {a : Tree} → Means anAtom s a → Rising at p s → suc p < end → Made at end (literalPower a p n)
+  a-raise-made : {p : ℕ} {s : List Mark} {a b : Tree} → Means anAtom s a → Rising at p s → suc p < end → Made at end (raise a p b)
 
-record Stands (at : ℕ) (s : List ℕ) (u : Tree) : Type 0 where
-  place : ℕ
-  text : List ℕ
-  from : at ≤ place
-  upto : place + length text ≤ at + length s
-  made : Made place text u
+wider : {at from end upto : ℕ} {u : Tree} → at ≤ from → upto ≤ end → Made from upto u → Made at end u
+wider low high (a-number-made p q) = a-number-made (le-trans low p) (le-trans q high)
+wider low high an-x-made = an-x-made
+wider low high a-sum-made = a-sum-made
+wider low high a-difference-made = a-difference-made
+wider low high a-product-made = a-product-made
+wider low high a-minus-made = a-minus-made
+wider low high (a-power-made {p = p} M R h) = a-power-made {p = p} M (rising-within low (omega arith) R) (le-trans h high)
+wider low high (a-raise-made {p = p} M R h) = a-raise-made {p = p} M (rising-within low (omega arith) R) (le-trans h high)
 
-here : {at : ℕ} {s : List ℕ} {u : Tree} → Made at s u → Stands at s u
-here {at} {s} m = record { place = at; text = s; from = omega arith; upto = omega arith; made = m }
+left : {at end p : ℕ} (s : List Mark) (c : ℕ) (r : List Mark) {u : Tree} → Rising at end (s ++ mark p c ∷ r) → Made at p u → Made at end u
+left s c r R m = wider (omega arith) (omega (arith, rising-upto (rising-parts s c r R .1))) m
 
-wider : {at next : ℕ} (s r : List ℕ) {u : Tree} → at ≤ next → next + length r ≤ at + length s → Stands next r u → Stands at s u
-wider s r p q S = record { place = S .place; text = S .text; from = le-trans p (S .from); upto = le-trans (S .upto) q; made = S .made }
+right : {at end p : ℕ} (s : List Mark) (c : ℕ) (r : List Mark) {u : Tree} → Rising at end (s ++ mark p c ∷ r) → Made (suc p) end u → Made at end u
+right s c r R m = wider (omega (arith, rising-upto (rising-parts s c r R .0))) (omega arith) m
 
-left : {at : ℕ} (s r : List ℕ) {u : Tree} → Stands at s u → Stands at (s ++ r) u
-left s r S = wider (s ++ r) s (omega arith) (simp length-append (omega arith)) S
+-- A number's place is that of its first digit.
+number-at : {at end p v : ℕ} {ds : List ℕ} → Number ds v → Rising at end (marked p ds) → (at ≤ p) × (p < end)
+unfolding marked
+number-at nought (next-mark h R) = (h, rising-upto R)
+number-at (digits low high rest) (next-mark h R) = (h, rising-upto R)
 
-right : {at next : ℕ} (s r : List ℕ) (c : ℕ) {u : Tree} → next ≡ at + length s + 1 → Stands next r u → Stands at (s ++ c ∷ r) u
-right s r c e S = wider (s ++ c ∷ r) r (omega arith) (simp length-append (omega arith)) S
+-- A power's place is behind its base, and one more place is behind that.
+power-at : {at end upto p n : ℕ} {s : List Mark} {a : Tree} → Means anAtom s a → Rising at upto s → upto ≤ p → suc p < end
+    → Made at end (literalPower a p n)
+power-at {p = p} M R behind h = a-power-made {p = p} M (rising-within (omega arith) behind R) h
 
-stands : {sort : Sort} {at : ℕ} {s : List ℕ} {t u : Tree} → Means sort at s t → Part u t → Stands at s u
-stands (one-product M) q = stands M q
-stands (joined-by-plus M e N) itself = here a-sum-made
-stands (joined-by-plus {s = s} {r} M e N) (sum-left q) = left s (plusSign ∷ r) (stands M q)
-stands (joined-by-plus {s = s} {r} M e N) (sum-right q) = right s r plusSign e (stands N q)
-stands (joined-by-minus M e N) itself = here a-difference-made
-stands (joined-by-minus {s = s} {r} M e N) (difference-left q) = left s (minusSign ∷ r) (stands M q)
-stands (joined-by-minus {s = s} {r} M e N) (difference-right q) = right s r minusSign e (stands N q)
-stands (one-factor M) q = stands M q
-stands (joined-by-star M e N) itself = here a-product-made
-stands (joined-by-star {s = s} {r} M e N) (product-left q) = left s (star ∷ r) (stands M q)
-stands (joined-by-star {s = s} {r} M e N) (product-right q) = right s r star e (stands N q)
-stands (a-power M) q = stands M q
-stands (leading-minus M) itself = here a-minus-made
-stands (leading-minus {at} {s} M) (under-minus q) = wider (minusSign ∷ s) s (omega arith) (omega arith) (stands M q)
-stands (an-atom M) q = stands M q
-stands (to-a-number {s = s} M e N) itself = here (a-power-made s M e (simp length-append (omega (arith, number-fits N))))
-stands (to-a-number {s = s} {r} M e N) (under-power q) = left s (caret ∷ r) (stands M q)
-stands (to-a-sum {s = s} M e later N) itself = here (a-raise-made s M e (simp length-append (omega arith)))
-stands (to-a-sum {s = s} {r} M e later N) (in-base q) =
-    left (s ++ caret ∷ openBracket ∷ r) (closeBracket ∷ []) (left s (caret ∷ openBracket ∷ r) (stands M q))
-stands (to-a-sum {s = s} {r} M e later N) (in-exponent q) =
-    wider (s ++ caret ∷ openBracket ∷ r ++ closeBracket ∷ []) r (omega arith) (simp length-append (omega arith)) (stands N q)
-stands (a-number N) itself = here (a-number-made N)
-stands an-x itself = here an-x-made
-stands (in-brackets {at} {s} M) q = wider (openBracket ∷ s ++ closeBracket ∷ []) s (omega arith) (simp length-append (omega arith)) (stands M q)
+-- The base of a raise and its exponent, between brackets.
+raise-parts : {at end p opens closes : ℕ} (s r : List Mark)
+    → Rising at end (s ++ mark p caret ∷ mark opens openBracket ∷ r ++ mark closes closeBracket ∷ [])
+    → Rising at p s × Rising (suc opens) closes r × (p < opens) × (closes < end)
+raise-parts {p = p} {opens} s r R =
+    let (within, closing) = rising-parts (s ++ mark p caret ∷ mark opens openBracket ∷ r) closeBracket [] R in
+    let (base, behind) = rising-parts s caret (mark opens openBracket ∷ r) within in
+    let (opening, exponent) = rising-parts [] openBracket r behind in
+    (base, exponent, rising-upto opening, rising-upto closing)
+
+stands : {sort : Sort} {at end : ℕ} {s : List Mark} {t u : Tree} → Means sort s t → Rising at end s → Part u t → Made at end u
+stands (one-product M) R q = stands M R q
+stands (joined-by-plus p M N) R itself = a-sum-made
+stands (joined-by-plus p {s} {r} M N) R (sum-left q) = left s plusSign r R (stands M (rising-parts s plusSign r R .0) q)
+stands (joined-by-plus p {s} {r} M N) R (sum-right q) = right s plusSign r R (stands N (rising-parts s plusSign r R .1) q)
+stands (joined-by-minus p M N) R itself = a-difference-made
+stands (joined-by-minus p {s} {r} M N) R (difference-left q) = left s minusSign r R (stands M (rising-parts s minusSign r R .0) q)
+stands (joined-by-minus p {s} {r} M N) R (difference-right q) = right s minusSign r R (stands N (rising-parts s minusSign r R .1) q)
+stands (one-factor M) R q = stands M R q
+stands (joined-by-star p M N) R itself = a-product-made
+stands (joined-by-star p {s} {r} M N) R (product-left q) = left s star r R (stands M (rising-parts s star r R .0) q)
+stands (joined-by-star p {s} {r} M N) R (product-right q) = right s star r R (stands N (rising-parts s star r R .1) q)
+stands (a-power M) R q = stands M R q
+stands (leading-minus M) R itself = a-minus-made
+stands (leading-minus {s = s} M) R (under-minus q) = right [] minusSign s R (stands M (rising-parts [] minusSign s R .1) q)
+stands (an-atom M) R q = stands M R q
+stands (to-a-number p first {s} {ds} M N) R itself =
+    let (before, behind) = rising-parts s caret (marked first ds) R in
+    let (from, upto) = number-at N behind in
+    power-at M before (omega arith) (omega arith)
+stands (to-a-number p first {s} {ds} M N) R (under-power q) =
+    left s caret (marked first ds) R (stands M (rising-parts s caret (marked first ds) R .0) q)
+stands (to-a-sum p opens closes {s} {r} M N) R itself =
+    let (base, exponent, opening, closing) = raise-parts s r R in
+    a-raise-made M base (omega (arith, rising-upto exponent))
+stands (to-a-sum p opens closes {s} {r} M N) R (in-base q) =
+    let (base, exponent, opening, closing) = raise-parts s r R in
+    wider (omega arith) (omega (arith, rising-upto exponent)) (stands M base q)
+stands (to-a-sum p opens closes {s} {r} M N) R (in-exponent q) =
+    let (base, exponent, opening, closing) = raise-parts s r R in
+    wider (omega (arith, rising-upto base)) (omega arith) (stands N exponent q)
+stands (a-number N) R itself = let (from, upto) = number-at N R in a-number-made from upto
+stands an-x R itself = an-x-made
+stands (in-brackets {opens} closes {s} M) R q =
+    let (within, closing) = rising-parts (mark opens openBracket ∷ s) closeBracket [] R in
+    let (opening, inner) = rising-parts [] openBracket s within in
+    wider (omega (arith, rising-upto opening)) (omega (arith, rising-upto closing)) (stands M inner q)
 
 -- ---- the place that a node knows
 pub data Placed : Tree → ℕ → Type 0 where
@@ -113,39 +141,34 @@ pub data Placed : Tree → ℕ → Type 0 where
   power-placed : {a : Tree} {p n : ℕ} → Placed (literalPower a p n) p
   raise-placed : {a b : Tree} {p : ℕ} → Placed (raise a p b) p
 
-own-place : {u : Tree} {p at : ℕ} {s : List ℕ} → Placed u p → Made at s u → (at ≤ p) × (p < at + length s)
-own-place number-placed (a-number-made N) = (omega arith, omega (arith, number-fits N))
-own-place power-placed (a-power-made r M e h) = (omega arith, omega arith)
-own-place raise-placed (a-raise-made r M e h) = (omega arith, omega arith)
+own-place : {u : Tree} {p at end : ℕ} → Placed u p → Made at end u → p < end
+own-place number-placed (a-number-made low high) = high
+own-place power-placed (a-power-made M R h) = omega arith
+own-place raise-placed (a-raise-made M R h) = omega arith
 
-pub placed-inside : {sort : Sort} {at p : ℕ} {s : List ℕ} {t u : Tree} → Means sort at s t → Part u t → Placed u p
-    → (at ≤ p) × (p < at + length s)
-placed-inside M q k =
-    let S = stands M q in
-    let h = own-place k (S .made) in
-    (omega arith, omega arith)
+-- The parts of a text's tree, as the grammar made them.
+made : {s : List ℕ} {t u : Tree} → Formula s t → Part u t → Made 0 (length s) u
+made {s} F q = stands (F .a-sum) (marked-rises 0 s (omega arith)) q
 
-pub raise-inside : {sort : Sort} {at p : ℕ} {s : List ℕ} {t a b : Tree} → Means sort at s t → Part (raise a p b) t
-    → (at ≤ p) × (p < at + length s)
-raise-inside M q = placed-inside M q raise-placed
+pub placed-inside : {p : ℕ} {s : List ℕ} {t u : Tree} → Formula s t → Part u t → Placed u p → p < length s
+placed-inside F q k = own-place k (made F q)
+
+pub raise-inside : {p : ℕ} {s : List ℕ} {t a b : Tree} → Formula s t → Part (raise a p b) t → p < length s
+raise-inside F q = placed-inside F q raise-placed
 
 -- A literal exponent's first digit stands right after its ^.
-pub literal-inside : {sort : Sort} {at p n : ℕ} {s : List ℕ} {t a : Tree} → Means sort at s t → Part (literalPower a p n) t
-    → (at ≤ p) × (suc p < at + length s)
-literal-inside M q =
-    let S = stands M q in
-    let h = go (S .made) in
-    (omega arith, omega arith)
+pub literal-inside : {p n : ℕ} {s : List ℕ} {t a : Tree} → Formula s t → Part (literalPower a p n) t → suc p < length s
+literal-inside F q = go (made F q)
   where
-    go : {at p n : ℕ} {s : List ℕ} {a : Tree} → Made at s (literalPower a p n) → (at ≤ p) × (suc p < at + length s)
-    go (a-power-made r N e h) = (omega arith, h)
+    go : {at end p n : ℕ} {a : Tree} → Made at end (literalPower a p n) → suc p < end
+    go (a-power-made M R h) = h
 
 -- What stands in the base of a ^ stands left of it.
 pub base-placed-left : {s : List ℕ} {t a b u : Tree} {p q : ℕ} → Formula s t → Part (raise a p b) t → Part u a → Placed u q → q < p
-base-placed-left M k l h = go (stands M k .made) l h
+base-placed-left F k l h = go (made F k) l h
   where
-    go : {at p q : ℕ} {s : List ℕ} {a b u : Tree} → Made at s (raise a p b) → Part u a → Placed u q → q < p
-    go (a-raise-made r N e h) l k = omega (arith, placed-inside N l k .1)
+    go : {at end p q : ℕ} {a b u : Tree} → Made at end (raise a p b) → Part u a → Placed u q → q < p
+    go (a-raise-made M R h) l k = own-place k (stands M R l)
 
 pub base-left : {s : List ℕ} {t a b c d : Tree} {p q : ℕ} → Formula s t → Part (raise a p b) t → Part (raise c q d) a → q < p
-base-left M k l = base-placed-left M k l raise-placed
+base-left F k l = base-placed-left F k l raise-placed

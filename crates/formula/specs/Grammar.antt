@@ -1,9 +1,8 @@
--- The grammar: which text, standing at which place, means which tree. One constructor for each sentence of 01.
-use mathlib.Core.Path.{_≡_}
+-- The grammar: which marks, bytes with their places, mean which tree. One constructor for each sentence of 01.
 use mathlib.Core.List.{List, [], _∷_, _++_}
-use Prim.Native.Nat.{ℕ, suc, _+_, _≤_}
-use lib.ListN.{length}
+use Prim.Native.Nat.{ℕ, _≤_}
 use Rattle.formula.specs.Bytes.{openBracket, closeBracket, star, plusSign, minusSign, caret, letterX, Digit, digitsFrom}
+use Rattle.formula.specs.Marks.{Mark, mark, marked}
 use Rattle.formula.specs.Tree.{Tree, number, variable, sum, difference, product, minus, literalPower, raise}
 
 pub data Digits : List ℕ → Type 0 where
@@ -22,33 +21,32 @@ pub data Sort : Type 0 where
   aPower : Sort
   anAtom : Sort
 
--- `Means sort at text tree`: the text, its first byte at that place, is of that sort and means that tree.
--- `next` and `later` are the places where the later parts begin.
-pub data Means : Sort → ℕ → List ℕ → Tree → Type 0 where
+-- `Means sort marks tree`: the marks are of that sort and mean that tree. A number knows the place of its first digit, and its digits stand side by
+-- side; a power knows the place of its ^.
+pub data Means : Sort → List Mark → Tree → Type 0 where
   -- "A sum is products joined by + or -, left to right."
-  one-product : {at : ℕ} {s : List ℕ} {t : Tree} → Means aProduct at s t → Means aSum at s t
-  joined-by-plus : {at next : ℕ} {s r : List ℕ} {t u : Tree} → Means aSum at s t → next ≡ at + length s + 1
-      → Means aProduct next r u → Means aSum at (s ++ plusSign ∷ r) (sum t u)
-  joined-by-minus : {at next : ℕ} {s r : List ℕ} {t u : Tree} → Means aSum at s t → next ≡ at + length s + 1
-      → Means aProduct next r u → Means aSum at (s ++ minusSign ∷ r) (difference t u)
+  one-product : {s : List Mark} {t : Tree} → Means aProduct s t → Means aSum s t
+  joined-by-plus : (p : ℕ) {s r : List Mark} {t u : Tree} → Means aSum s t → Means aProduct r u → Means aSum (s ++ mark p plusSign ∷ r) (sum t u)
+  joined-by-minus : (p : ℕ) {s r : List Mark} {t u : Tree} → Means aSum s t → Means aProduct r u
+      → Means aSum (s ++ mark p minusSign ∷ r) (difference t u)
   -- "A product is factors joined by *, left to right."
-  one-factor : {at : ℕ} {s : List ℕ} {t : Tree} → Means aFactor at s t → Means aProduct at s t
-  joined-by-star : {at next : ℕ} {s r : List ℕ} {t u : Tree} → Means aProduct at s t → next ≡ at + length s + 1
-      → Means aFactor next r u → Means aProduct at (s ++ star ∷ r) (product t u)
+  one-factor : {s : List Mark} {t : Tree} → Means aFactor s t → Means aProduct s t
+  joined-by-star : (p : ℕ) {s r : List Mark} {t u : Tree} → Means aProduct s t → Means aFactor r u → Means aProduct (s ++ mark p star ∷ r) (product t u)
   -- "A factor is any number of leading minus signs, then a power."
-  a-power : {at : ℕ} {s : List ℕ} {t : Tree} → Means aPower at s t → Means aFactor at s t
-  leading-minus : {at : ℕ} {s : List ℕ} {t : Tree} → Means aFactor (suc at) s t → Means aFactor at (minusSign ∷ s) (minus t)
+  a-power : {s : List Mark} {t : Tree} → Means aPower s t → Means aFactor s t
+  leading-minus : {p : ℕ} {s : List Mark} {t : Tree} → Means aFactor s t → Means aFactor (mark p minusSign ∷ s) (minus t)
   -- "A power is an atom, perhaps followed by one ^ and an exponent. An exponent is a number, or a sum in round brackets."
-  an-atom : {at : ℕ} {s : List ℕ} {t : Tree} → Means anAtom at s t → Means aPower at s t
-  to-a-number : {at place : ℕ} {s r : List ℕ} {t : Tree} {n : ℕ} → Means anAtom at s t → place ≡ at + length s → Number r n
-      → Means aPower at (s ++ caret ∷ r) (literalPower t place n)
-  to-a-sum : {at place later : ℕ} {s r : List ℕ} {t u : Tree} → Means anAtom at s t → place ≡ at + length s → later ≡ place + 2
-      → Means aSum later r u → Means aPower at (s ++ caret ∷ openBracket ∷ r ++ closeBracket ∷ []) (raise t place u)
+  an-atom : {s : List Mark} {t : Tree} → Means anAtom s t → Means aPower s t
+  to-a-number : (p first : ℕ) {s : List Mark} {ds : List ℕ} {t : Tree} {n : ℕ} → Means anAtom s t → Number ds n
+      → Means aPower (s ++ mark p caret ∷ marked first ds) (literalPower t p n)
+  to-a-sum : (p opens closes : ℕ) {s r : List Mark} {t u : Tree} → Means anAtom s t → Means aSum r u
+      → Means aPower (s ++ mark p caret ∷ mark opens openBracket ∷ r ++ mark closes closeBracket ∷ []) (raise t p u)
   -- "An atom is a number, x, or a sum in round brackets."
-  a-number : {at : ℕ} {s : List ℕ} {v : ℕ} → Number s v → Means anAtom at s (number at v)
-  an-x : {at : ℕ} → Means anAtom at (letterX ∷ []) variable
-  in-brackets : {at : ℕ} {s : List ℕ} {t : Tree} → Means aSum (suc at) s t → Means anAtom at (openBracket ∷ s ++ closeBracket ∷ []) t
+  a-number : {p : ℕ} {ds : List ℕ} {v : ℕ} → Number ds v → Means anAtom (marked p ds) (number p v)
+  an-x : {p : ℕ} → Means anAtom (mark p letterX ∷ []) variable
+  in-brackets : {opens : ℕ} (closes : ℕ) {s : List Mark} {t : Tree} → Means aSum s t
+      → Means anAtom (mark opens openBracket ∷ s ++ mark closes closeBracket ∷ []) t
 
--- A grammar text, and its tree: a sum that stands at place 0.
-abbrev pub Formula : List ℕ → Tree → Type 0
-Formula s t = Means aSum 0 s t
+-- A grammar text, and its tree: a sum whose first byte stands at place 0.
+pub record Formula (s : List ℕ) (t : Tree) : Type 0 where
+  pub a-sum : Means aSum (marked 0 s) t

@@ -2,6 +2,7 @@
 -- contracts go by, are in `formula_scan`.
 pub mod Bytes
 pub mod Tree
+pub mod Marks
 pub mod Grammar
 pub mod Value
 pub mod Words

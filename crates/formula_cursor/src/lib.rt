@@ -2,10 +2,13 @@
 // The grammar is read in `formula_readers`; what a text is refused for is judged in `formula_read`.
 use formula_nodes::faults;
 use formula_nodes::stopped;
+use formula_packing::unpacked;
 use formula_scan::Found;
 ghost use mathlib.Core.Path.{_≡_};
-ghost use Prim.Native.Nat.{_≤_};
+ghost use mathlib.Core.List.{[]};
+ghost use Prim.Native.Nat.{_≤_, _<_};
 ghost use lib.ListN.{length};
+ghost use Rattle.formula_scan.specs.Readers.{faultPlaces};
 ghost use Rattle.formula_cursor.specs.Whole.{Scanned, ifEnded, WholeRead};
 
 // A formula's text and the place reached in it.
@@ -14,13 +17,12 @@ pub struct Cursor<'a> {
     pub place: usize,
 }
 
-// The sum that begins at a place, read with no tree to write into.
-fn sum_from(text: &[u8], place: usize) -> Found
-    requires { ⌜ place ≤ length (now text) ⌝ }
-    ensures { λ r. ⌜ Scanned 64 (now (text .entry)) place r ⌝ }
+// The sum that begins at a place, its nodes written into the lent tree.
+fn sum_from(text: &[u8], place: usize, tree: &mut [u64]) -> Found
+    requires { ⌜ (place ≤ length (now text)) × (length (now text) < faultPlaces) ⌝ }
+    ensures { λ r. ⌜ Scanned 64 (now (text .entry)) place (now (tree .entry)) r (now (tree .exit)) ⌝ }
 {
-    let mut none = [0u64; 1];
-    formula_readers::read_sum(text, &mut none[0..0], place, 0, faults::NO_FAULT)
+    unpacked(formula_readers::read_sum(text, tree, place, 0, faults::NO_FAULT))
 }
 
 // What was found of a sum, if no byte is left from a place on; else no formula goes on past that place.
@@ -53,12 +55,12 @@ pub fn past<'a>(cursor: Cursor<'a>, sum: Found) -> Cursor<'a>
     }
 }
 
-// The sum that begins at the cursor's place.
-pub fn read_sum<'a>(cursor: Cursor<'a>) -> Found
-    requires { ⌜ cursor .place ≤ length (now (cursor .text)) ⌝ }
-    ensures { λ r. ⌜ Scanned 64 (now (cursor .entry .text)) (cursor .entry .place) r ⌝ }
+// The sum that begins at the cursor's place, its nodes written into the lent tree.
+pub fn read_sum<'a, 'b>(cursor: Cursor<'a>, tree: &'b mut [u64]) -> Found
+    requires { ⌜ (cursor .place ≤ length (now (cursor .text))) × (length (now (cursor .text)) < faultPlaces) ⌝ }
+    ensures { λ r. ⌜ Scanned 64 (now (cursor .entry .text)) (cursor .entry .place) (now (tree .entry)) r (now (tree .exit)) ⌝ }
 {
-    sum_from(cursor.text, cursor.place)
+    sum_from(cursor.text, cursor.place, tree)
 }
 
 // What was found of a sum, if the cursor is at the text's end; else no formula goes on past the cursor's place.
@@ -68,11 +70,21 @@ pub fn if_at_end<'a>(cursor: Cursor<'a>, sum: Found) -> Found
     if_ended(cursor.text, cursor.place, sum)
 }
 
-// A whole text, read by a cursor from its start to its end.
-pub fn read_whole(text: &[u8]) -> Found
-    ensures { λ r. ⌜ WholeRead 64 (now (text .entry)) r ⌝ }
+// A whole text, read by a cursor from its start to its end, its nodes written into the lent tree.
+pub fn read_whole(text: &[u8], tree: &mut [u64]) -> Found
+    requires { ⌜ length (now text) < faultPlaces ⌝ }
+    ensures { λ r. ⌜ WholeRead 64 (now (text .entry)) (now (tree .entry)) r (now (tree .exit)) ⌝ }
 {
     let start = at_start(text);
-    let sum = read_sum(start);
+    let sum = read_sum(start, tree);
     if_at_end(past(start, sum), sum)
+}
+
+// The same with no tree to write into.
+pub fn scan_whole(text: &[u8]) -> Found
+    requires { ⌜ length (now text) < faultPlaces ⌝ }
+    ensures { λ r. ⌜ WholeRead 64 (now (text .entry)) [] r [] ⌝ }
+{
+    let mut none = [0u64; 1];
+    read_whole(text, &mut none[0..0])
 }

@@ -28,7 +28,7 @@ pub fn is_digit(byte: u8) -> bool
     byte <= b'9'
 }
 
-// The number with one more digit at its end.
+// The number with one more digit at its end. A number that is over is the largest word, so it stays over.
 fn pushed(number: Numeral, digit: u64) -> Numeral
     requires { ⌜ digit < 10 ⌝ }
     requires { ⌜ number .at < 2 ^ 63 ⌝ }
@@ -36,18 +36,10 @@ fn pushed(number: Numeral, digit: u64) -> Numeral
 {
     let at = number.at + 1;
     let value = number.value;
-    if number.over {
-        return Numeral {
-            at,
-            value: 0,
-            over: true,
-            odd: (digit % 2) as u8,
-        };
-    }
     if (u64::MAX - digit) / 10 < value {
         return Numeral {
             at,
-            value: 0,
+            value: u64::MAX,
             over: true,
             odd: (digit % 2) as u8,
         };

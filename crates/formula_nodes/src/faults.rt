@@ -1,14 +1,12 @@
 // Refusals as the readers note them: one code for number and place, so that the least code is the refusal. Refusals 5, 6 and 8 are found here.
 // Refusals 2, 3, 4 and 7 are judged in `formula_read`.
 use formula_scan::Numeral;
+use formula_scan::PLACES;
 ghost use mathlib.Core.Path.{_≡_};
 ghost use mathlib.Core.Bool.{cond};
 ghost use Prim.Native.Nat.{_^_, _<_, min};
 ghost use lib.Dec.{eqb, leb};
 ghost use Rattle.formula_scan.specs.Readers.{noFault, faultCode, baseFault};
-
-// A code is the number times this, and the place, which is less.
-pub const PLACES: u64 = 2048;
 
 // No fault: above the code of any.
 pub const NO_FAULT: u64 = 9 * PLACES;

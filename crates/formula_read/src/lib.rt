@@ -6,16 +6,17 @@ use formula::MOST_NODES;
 use formula::ReadAnswer;
 use formula::TREE_WORDS;
 use formula_nodes::faults;
+use formula_scan::PLACES;
 ghost use mathlib.Core.Path.{_≡_};
 ghost use mathlib.Core.Bool.{cond};
 ghost use mathlib.Core.List.{_++_};
-ghost use Prim.Native.Nat.{_≤_};
+ghost use Prim.Native.Nat.{_≤_, _<_};
 ghost use lib.Dec.{ltb};
 ghost use lib.ListN.{length, drop};
 ghost use Rattle.formula.specs.Tree.{Tree};
 ghost use Rattle.formula.specs.Words.{treeWords, treeLength, mostNodes};
 ghost use Rattle.formula.specs.Refusals.{Accepted, Reading};
-ghost use Rattle.formula_scan.specs.Readers.{faultCode, noFault, Judged};
+ghost use Rattle.formula_scan.specs.Readers.{faultPlaces, faultCode, noFault, Judged};
 
 const LONGEST_TEXT: usize = 1024;
 
@@ -46,7 +47,7 @@ fn judged(text: &[u8]) -> ReadAnswer
             place: deep as u64,
         };
     }
-    let whole = formula_cursor::read_whole(text);
+    let whole = formula_cursor::scan_whole(text);
     if !whole.ok {
         return ReadAnswer {
             number: 4,
@@ -56,8 +57,8 @@ fn judged(text: &[u8]) -> ReadAnswer
     let code = faults::lesser(whole.fault, nodes_fault(whole.nodes));
     if code < faults::NO_FAULT {
         return ReadAnswer {
-            number: code / faults::PLACES,
-            place: code % faults::PLACES,
+            number: code / PLACES,
+            place: code % PLACES,
         };
     }
     ReadAnswer {
@@ -69,11 +70,12 @@ fn judged(text: &[u8]) -> ReadAnswer
 // The words of an accepted text's tree.
 fn write(text: &[u8], tree: &mut [u64])
     requires { ⌜ treeLength ≤ length (now tree) ⌝ }
+    requires { ⌜ length (now text) < faultPlaces ⌝ }
     ensures { λ _. ⌜ ((t : Tree) → Accepted 64 (now (text .entry)) t → now (tree .exit) ≡ treeWords t ++ drop treeLength (now (tree .entry))) ⌝ }
 {
     word::clear(&mut tree[0..TREE_WORDS]);
-    let sum = formula_readers::read_sum(text, &mut tree[1..TREE_WORDS], 0, 0, faults::NO_FAULT);
-    tree[0] = sum.nodes as u64;
+    let whole = formula_cursor::read_whole(text, &mut tree[1..TREE_WORDS]);
+    tree[0] = whole.nodes as u64;
 }
 
 // Reads a formula into a lent tree of 257 words. A refusal alters no word; words past the 257 stay.

@@ -16,6 +16,8 @@ use formula_nodes::negated;
 use formula_nodes::noted;
 use formula_nodes::starting;
 use formula_nodes::stopped;
+use formula_packing::packed;
+use formula_packing::unpacked;
 use formula_scan::Found;
 ghost use mathlib.Core.Path.{_≡_};
 ghost use mathlib.Core.Bool.{_||_};
@@ -23,6 +25,7 @@ ghost use Prim.Native.Nat.{_<_, _≤_};
 ghost use lib.Dec.{eqb};
 ghost use lib.ListN.{length, getD};
 ghost use Rattle.formula.specs.Bytes.{plusSign, minusSign};
+ghost use Rattle.formula_scan.specs.Packing.{unpacked, Packs};
 ghost use Rattle.formula_scan.specs.Readers.{MinusSigns, SumRead, ProductRead, PowerRead, AtomRead, BracketRead};
 
 // The first place from `at` on without a minus sign.
@@ -50,9 +53,10 @@ fn is_sign(byte: u8) -> bool
 fn read_bracket(text: &[u8], tree: &mut [u64], at: usize, nodes: usize, fault: u64) -> Found
     requires { ⌜ at < length (now text) ⌝ }
     requires { ⌜ nodes ≤ at ⌝ }
+    requires { ⌜ Packs (now text) fault ⌝ }
     ensures { λ r. ⌜ BracketRead 64 (now (text .entry)) at nodes fault (now (tree .entry)) r (now (tree .exit)) ⌝ }
 {
-    let sum = read_sum(text, tree, at + 1, nodes, fault);
+    let sum = unpacked(read_sum(text, tree, at + 1, nodes, fault));
     let end = sum.at;
     if !sum.ok {
         return stopped(end);
@@ -68,6 +72,7 @@ fn read_atom(text: &[u8], tree: &mut [u64], at: usize, nodes: usize, fault: u64)
     requires { ⌜ at ≤ length (now text) ⌝ }
     requires { ⌜ nodes ≤ at ⌝ }
     requires { ⌜ (getD (now text) at 0 ≡ minusSign → ⊥) ⌝ }
+    requires { ⌜ Packs (now text) fault ⌝ }
     ensures { λ r. ⌜ AtomRead 64 (now (text .entry)) at nodes fault (now (tree .entry)) r (now (tree .exit)) ⌝ }
 {
     let byte = byte_at(text, at);
@@ -106,6 +111,7 @@ fn read_power(text: &[u8], tree: &mut [u64], at: usize, nodes: usize, fault: u64
     requires { ⌜ at ≤ length (now text) ⌝ }
     requires { ⌜ nodes ≤ at ⌝ }
     requires { ⌜ (getD (now text) at 0 ≡ minusSign → ⊥) ⌝ }
+    requires { ⌜ Packs (now text) fault ⌝ }
     ensures { λ r. ⌜ PowerRead 64 (now (text .entry)) at nodes fault (now (tree .entry)) r (now (tree .exit)) ⌝ }
 {
     let base = read_atom(text, tree, at, nodes, fault);
@@ -140,6 +146,7 @@ fn read_power(text: &[u8], tree: &mut [u64], at: usize, nodes: usize, fault: u64
 fn read_factor(text: &[u8], tree: &mut [u64], at: usize, nodes: usize, fault: u64) -> Found
     requires { ⌜ at ≤ length (now text) ⌝ }
     requires { ⌜ nodes ≤ at ⌝ }
+    requires { ⌜ Packs (now text) fault ⌝ }
     ensures { λ r. ⌜ PowerRead 64 (now (text .entry)) at nodes fault (now (tree .entry)) r (now (tree .exit)) ⌝ }
 {
     let first = after_minus_signs(text, at);
@@ -154,6 +161,7 @@ fn read_factor(text: &[u8], tree: &mut [u64], at: usize, nodes: usize, fault: u6
 fn read_product(text: &[u8], tree: &mut [u64], at: usize, nodes: usize, fault: u64) -> Found
     requires { ⌜ at ≤ length (now text) ⌝ }
     requires { ⌜ nodes ≤ at ⌝ }
+    requires { ⌜ Packs (now text) fault ⌝ }
     ensures { λ r. ⌜ ProductRead 64 (now (text .entry)) at nodes fault (now (tree .entry)) r (now (tree .exit)) ⌝ }
 {
     let mut left = starting(at, nodes, fault);
@@ -173,23 +181,24 @@ fn read_product(text: &[u8], tree: &mut [u64], at: usize, nodes: usize, fault: u
     }
 }
 
-// A sum: products joined by + or -, left to right.
-pub fn read_sum(text: &[u8], tree: &mut [u64], at: usize, nodes: usize, fault: u64) -> Found
+// A sum: products joined by + or -, left to right. The one reader that is called inside itself, so it answers one word.
+pub fn read_sum(text: &[u8], tree: &mut [u64], at: usize, nodes: usize, fault: u64) -> u64
     requires { ⌜ at ≤ length (now text) ⌝ }
     requires { ⌜ nodes ≤ at ⌝ }
-    ensures { λ r. ⌜ SumRead 64 (now (text .entry)) at nodes fault (now (tree .entry)) r (now (tree .exit)) ⌝ }
+    requires { ⌜ Packs (now text) fault ⌝ }
+    ensures { λ r. ⌜ SumRead 64 (now (text .entry)) at nodes fault (now (tree .entry)) (unpacked r) (now (tree .exit)) ⌝ }
 {
     let mut left = starting(at, nodes, fault);
     let mut sign = 0;
     loop {
         let right = read_product(text, tree, left.at, left.nodes, left.fault);
         if !right.ok {
-            return right;
+            return packed(stopped(right.at));
         }
         let whole = joined_sum(tree, sign, left, right);
         let next = byte_at(text, whole.at);
         if !is_sign(next) {
-            return whole;
+            return packed(whole);
         }
         left = beyond(whole);
         sign = next;

@@ -8,6 +8,7 @@ pub mod Numerals
 pub mod Steps
 pub mod Readings
 pub mod Ways
+pub mod Packing
 pub mod BracketCount
 pub mod Written
 pub mod Judging

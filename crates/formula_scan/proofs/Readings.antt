@@ -9,7 +9,7 @@ use native.Mathlib.Omega.{arith}
 use lib.Dec.{leb}
 use lib.ListN.{length, getD, take, drop, length-drop}
 use lib.Seq.{take-suc, getD-drop}
-use borrow.Author.Tests.{leb-true, le-leb, lt-leb, lt-ltb}
+use borrow.Author.Tests.{leb-true, le-leb, lt-leb}
 use Rattle.formula_scan.specs.declared.Found.{Found}
 use Rattle.formula_scan.specs.declared.Numeral.{Numeral}
 use Rattle.formula.specs.Bytes.{Digit}
@@ -120,7 +120,7 @@ pub number-starts : (l : List ℕ) (at d : ℕ) → d + 48 ≡ getD l at 0 → d
 unfolding step beforeOperand beforeExponent
 number-starts l at d e small some = record {
   v = d;
-  value-kept = sym (rw (lt-ltb d (2 ^ 64) (omega arith)));
+  value-kept = omega arith;
   value-over = sym (lt-leb (2 ^ 64) d (omega arith));
   value-odd = refl;
   onward = omega arith;

@@ -1,4 +1,4 @@
--- The scan of specs/Scan.antt, by itself: texts in parts, what a byte's class says of the byte, runs of digits, minus signs.
+-- The scan of specs/Scan.antt, by itself: texts and marks in parts, what a byte's class says of the byte, runs of digits, minus signs.
 use mathlib.Core.Path.{_≡_, refl, sym, ap, _∙_}
 use mathlib.Core.Logic.{_≢_}
 use mathlib.Core.Bool.{Bool, true, false, cond, _&&_, and-eq-true-iff}
@@ -9,35 +9,28 @@ use lib.Dec.{eqb, leb, ltb}
 use lib.ListN.{length}
 use borrow.Author.Tests.{eqb-true, eqb-false, ne-eqb, leb-true, leb-false, le-leb, ltb-true, ltb-false}
 use Rattle.formula.specs.Bytes.{openBracket, closeBracket, star, plusSign, minusSign, caret, letterX, Digit, digitsFrom}
+use Rattle.formula.specs.Marks.{Mark, mark, marked}
 use Rattle.formula.specs.Tree.{Tree, minus}
 use Rattle.formula.specs.Grammar.{Digits, no-digit, digit}
 use Rattle.formula_scan.specs.Scan.{Byte, plusByte, minusByte, starByte, caretByte, openByte, closeByte, xByte, zeroByte, digitByte, otherByte, byteOf, State, stopped, negatives, step, stops, ending, fed, run}
 
--- ---- texts in parts
-pub run-fed : (S : State) (at : ℕ) (s r : List ℕ) → run S at (s ++ r) ≡ run (fed S at s) (at + length s) r
-unfolding run fed
+-- ---- texts and marks in parts
+pub run-fed : (S : State) (at : ℕ) (s r : List ℕ) → run S at (s ++ r) ≡ run (fed S (marked at s)) (at + length s) r
+unfolding run fed marked
 run-fed S at [] r = ap (λ n. run S n r) (omega arith)
 run-fed S at (c ∷ s) r =
-    run-fed (step S at (byteOf c)) (suc at) s r ∙ ap (λ n. run (fed (step S at (byteOf c)) (suc at) s) n r) (omega arith)
+    run-fed (step S at (byteOf c)) (suc at) s r ∙ ap (λ n. run (fed (step S at (byteOf c)) (marked (suc at) s)) n r) (omega arith)
 
-pub fed-append : (S : State) (at : ℕ) (s r : List ℕ) → fed S at (s ++ r) ≡ fed (fed S at s) (at + length s) r
+pub fed-append : (S : State) (m k : List Mark) → fed S (m ++ k) ≡ fed (fed S m) k
 unfolding fed
-fed-append S at [] r = ap (λ n. fed S n r) (omega arith)
-fed-append S at (c ∷ s) r =
-    fed-append (step S at (byteOf c)) (suc at) s r ∙ ap (λ n. fed (fed (step S at (byteOf c)) (suc at) s) n r) (omega arith)
+fed-append S [] k = refl
+fed-append S (mark p c ∷ m) k = fed-append (step S p (byteOf c)) m k
 
-pub run-ending : (S : State) (at : ℕ) (s : List ℕ) → run S at s ≡ ending (fed S at s) (at + length s)
-unfolding run fed
+pub run-ending : (S : State) (at : ℕ) (s : List ℕ) → run S at s ≡ ending (fed S (marked at s)) (at + length s)
+unfolding run fed marked
 run-ending S at [] = ap (λ n. ending S n) (omega arith)
 run-ending S at (c ∷ s) =
-    run-ending (step S at (byteOf c)) (suc at) s ∙ ap (λ n. ending (fed (step S at (byteOf c)) (suc at) s) n) (omega arith)
-
--- Across one byte, with the place of what follows it.
-pub fed-across : (S : State) (at : ℕ) (s : List ℕ) (c : ℕ) (r : List ℕ) {next : ℕ} → next ≡ at + length s + 1
-    → fed S at (s ++ c ∷ r) ≡ fed (step (fed S at s) (at + length s) (byteOf c)) next r
-unfolding fed
-fed-across S at s c r e =
-    fed-append S at s (c ∷ r) ∙ ap (λ n. fed (step (fed S at s) (at + length s) (byteOf c)) n r) (omega arith)
+    run-ending (step S at (byteOf c)) (suc at) s ∙ ap (λ n. ending (fed (step S at (byteOf c)) (marked (suc at) s)) n) (omega arith)
 
 pub run-stopped : (p at : ℕ) (s : List ℕ) → run (stopped p) at s ≡ stops p
 unfolding run step ending
@@ -115,18 +108,18 @@ module _ (holding : ℕ → State) (takes-zero : (v at : ℕ) → step (holding 
       go true e = ap (λ b. step (holding v) at b) (byte-digit c (ltb-true 48 c e) (d .1)) ∙ takes-digit v at (c - 48)
       go false e = at-zero (omega (arith, ltb-false 48 c e))
 
-  pub fed-digits : {ds : List ℕ} → Digits ds → (v at : ℕ) → fed (holding v) at ds ≡ holding (digitsFrom v ds)
-  unfolding fed digitsFrom
+  pub fed-digits : {ds : List ℕ} → Digits ds → (v at : ℕ) → fed (holding v) (marked at ds) ≡ holding (digitsFrom v ds)
+  unfolding fed marked digitsFrom
   fed-digits no-digit v at = refl
   fed-digits (digit {d = c} {ds = ds} d rest) v at =
-      ap (λ S. fed S (suc at) ds) (takes v at c d) ∙ fed-digits rest (10 * v + (c - 48)) (suc at)
+      ap (λ S. fed S (marked (suc at) ds)) (takes v at c d) ∙ fed-digits rest (10 * v + (c - 48)) (suc at)
 
   -- A number that does not begin with 0.
   pub fed-number : (S : State) (at : ℕ) → ((d : ℕ) → step S at (digitByte d) ≡ holding d)
-      → {c : ℕ} {ds : List ℕ} → 49 ≤ c → c ≤ 57 → Digits ds → fed S at (c ∷ ds) ≡ holding (digitsFrom 0 (c ∷ ds))
-  unfolding fed digitsFrom
+      → {c : ℕ} {ds : List ℕ} → 49 ≤ c → c ≤ 57 → Digits ds → fed S (marked at (c ∷ ds)) ≡ holding (digitsFrom 0 (c ∷ ds))
+  unfolding fed marked digitsFrom
   fed-number S at begins {c} {ds} low high rest =
-      ap (λ T. fed T (suc at) ds) (ap (λ b. step S at b) (byte-digit c low high) ∙ begins (c - 48))
+      ap (λ T. fed T (marked (suc at) ds)) (ap (λ b. step S at b) (byte-digit c low high) ∙ begins (c - 48))
       ∙ fed-digits rest (c - 48) (suc at)
       ∙ ap (λ v. holding (digitsFrom v ds)) (omega arith)
 

@@ -16,6 +16,7 @@ use Rattle.formula.specs.Tree.{Tree, number, variable, sum, difference, product
 use Rattle.formula_scan.specs.Scan.{Byte, plusByte, minusByte, starByte, caretByte, openByte, closeByte, xByte, zeroByte, digitByte, otherByte, byteOf, PendingSum, noSum, adding, subtracting, PendingProduct, noProduct, multiplying, Level, level, Outer, bottom, inBrackets, inExponent, fresh, State, operand, atomed, afterCaret, powered, stopped, negatives, productWith, sumWith, closed, afterPower, afterAtom, beforeOperand, beforeExponent, step, stops, ended, ending, run}
 use Rattle.formula_scan.specs.Readers.{kept, parity, faultCode, noFault, literalFault, baseFault, faulted, put, wrote, wroteMinus, stopping, finding, literalFound, productFound, sumFound, found, Read, fails, gets, Anything, NoStar, NoSign, InSum, inSum, Enclosing, brackets, exponent, opened, enclosed, SumRead, ProductRead, PowerRead, AtomRead, BracketRead, NumberRead, MinusSigns}
 use Rattle.formula_scan.proofs.Scanning.{Is, byte-is}
+use Rattle.formula_scan.proofs.Numerals.{kept-fits}
 use Rattle.formula_scan.proofs.Steps.{inside, run-byte, run-same, run-stop}
 use Rattle.formula_scan.proofs.Readings.{odd-product}
 
@@ -90,7 +91,7 @@ kept-cond {ℓ} : {A : Type ℓ} (width n : ℕ) (test : ℕ → Bool) (a b c : 
 kept-cond width n test a b c = over-cond (2 ^ width) n c (cond (test (kept width n)) a b) ∙ go (ltb n (2 ^ width)) refl
   where
     go : (t : Bool) → ltb n (2 ^ width) ≡ t → cond t (cond (test (kept width n)) a b) c ≡ cond t (cond (test n) a b) c
-    go true e = ap (λ k. cond (test k) a b) (ap (λ t. cond t n 0) e)
+    go true e = ap (λ k. cond (test k) a b) (kept-fits width n (ltb-true n (2 ^ width) e))
     go false e = refl
 
 literal-odd : (width n o : ℕ) → cond (leb (2 ^ width) n) o (cond (eqb (kept width n) 0) 1 o) ≡ cond (eqb n 0) 1 o

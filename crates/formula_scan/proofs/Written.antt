@@ -14,6 +14,7 @@ use Rattle.formula.specs.Tree.{Tree, number, variable, sum, difference, product
 use Rattle.formula.specs.Words.{nodeWords, treeWords, nodesLength, treeLength, mostNodes}
 use Rattle.formula.specs.Refusals.{Part, itself, sum-left, sum-right, difference-left, difference-right, product-left, product-right, under-minus, under-power, in-base, in-exponent}
 use Rattle.formula_scan.specs.Readers.{kept, put, wrote}
+use Rattle.formula_scan.proofs.Numerals.{kept-fits}
 
 -- ---- two words a node
 pub nodes-words : (t : Tree) → length (nodeWords t) ≡ 2 * nodes t
@@ -90,9 +91,6 @@ record Fits (w : ℕ) (t : Tree) : Type 0 where
 
 within : {w : ℕ} {s t : Tree} → Fits w t → ((u : Tree) → Part u s → Part u t) → Fits w s
 within fit up = record { numbers = λ p v h. fit .numbers p v (up _ h); exponents = λ a p m h. fit .exponents a p m (up _ h) }
-
-kept-fits : (w v : ℕ) → v < 2 ^ w → kept w v ≡ v
-kept-fits w v h = rw (lt-ltb v (2 ^ w) h)
 
 writes : (w : ℕ) (t : Tree) → Fits w t → Writes (wrote w t) (nodeWords t) (nodes t)
 unfolding wrote nodeWords nodes

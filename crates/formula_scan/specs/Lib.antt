@@ -2,4 +2,5 @@
 -- Nobody has to believe them; proofs/ shows that they say what the grammar and the refusals of `formula` say.
 pub mod Scan
 pub mod Readers
+pub mod Packing
 pub mod Verdict

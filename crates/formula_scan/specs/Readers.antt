@@ -17,9 +17,9 @@ use Rattle.formula.specs.Tree.{Tree, number, variable, sum, difference, product
 use Rattle.formula_scan.specs.Scan.{PendingSum, Level, level, noProduct, Outer, inBrackets, inExponent, fresh, State, operand, atomed, afterCaret, powered, run, stops}
 
 -- ---- what is noted of a tree
--- A number that fits a word, or 0 for one that doesn't.
+-- A number that fits a word, or the largest word for one that doesn't.
 abbrev pub kept : ℕ → ℕ → ℕ
-kept w v = cond (ltb v (2 ^ w)) v 0
+kept w v = min v (2 ^ w - 1)
 
 -- 1 for an odd value and 0 for an even one, where each raise in the tree has an odd base.
 unfoldable pub parity : Tree → ℕ

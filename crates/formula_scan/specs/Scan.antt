@@ -5,6 +5,7 @@ use mathlib.Core.List.{List, [], _∷_}
 use Prim.Native.Nat.{ℕ, zero, suc, _+_, _-_, _*_}
 use lib.Dec.{eqb, leb}
 use Rattle.formula.specs.Bytes.{openBracket, closeBracket, star, plusSign, minusSign, caret, letterX}
+use Rattle.formula.specs.Marks.{Mark, mark}
 use Rattle.formula.specs.Tree.{Tree, number, variable, sum, difference, product, minus, literalPower, raise}
 
 -- What a byte is to the scan.
@@ -201,11 +202,12 @@ ending (inLiteral lv t p n) at = ended lv (literalPower t p n) at
 ending (powered lv t) at = ended lv t at
 ending (stopped p) at = stops p
 
--- The state after some bytes that stand at a place, and the outcome of a text's end.
-unfoldable pub fed : State → ℕ → List ℕ → State
-fed S at [] = S
-fed S at (c ∷ s) = fed (step S at (byteOf c)) (suc at) s
+-- The state after some marks.
+unfoldable pub fed : State → List Mark → State
+fed S [] = S
+fed S (mark p c ∷ m) = fed (step S p (byteOf c)) m
 
+-- The outcome of some bytes that stand at a place and of the text's end.
 unfoldable pub run : State → ℕ → List ℕ → Outcome
 run S at [] = ending S at
 run S at (c ∷ s) = run (step S at (byteOf c)) (suc at) s

@@ -1,7 +1,10 @@
 // What the readers of a formula answer one another. The scan that decides the grammar, and what the readers' contracts say by it, are in specs/.
 // Nobody has to believe them: proofs/ ties them to the grammar and the refusals of `formula`. The readers are in the crates above.
 
-// A number's end, its value if it fits a word (0 if not), whether it is over, and 1 if it is odd.
+// A code of a fault is the refusal's number times this, and the place, which is less.
+pub const PLACES: u64 = 2048;
+
+// A number's end, its value if it fits a word (the largest word if not), whether it is over, and 1 if it is odd.
 pub struct Numeral {
     pub at: usize,
     pub value: u64,

@@ -7,11 +7,12 @@ use native.Mathlib.Omega.{arith}
 use lib.Dec.{leb}
 use lib.ListN.{length, getD}
 use lib.Seq.{take-all}
-use borrow.Author.Tests.{le-leb, lt-leb, lt-ltb, leb-true, leb-false}
+use borrow.Author.Tests.{le-leb, lt-leb, leb-true, leb-false}
 use Rattle.formula.specs.Bytes.{Digit, digitsFrom}
 use Rattle.formula.specs.Grammar.{Number, nought, digits}
 use Rattle.formula_scan.specs.declared.Numeral.{Numeral}
 use Rattle.formula_scan.specs.Readers.{NumberRead}
+use Rattle.formula_scan.proofs.Numerals.{kept-fits}
 use Rattle.table.specs.NumberField.{isNumber, numberUpTo}
 use Rattle.table.proofs.Digits.{digit-at}
 use Rattle.table_fields.specs.Reading.{taken, notTaken}
@@ -57,7 +58,7 @@ module _ (most : ℕ) {s : List ℕ} {r : Numeral} (read : NumberRead 64 s 0 r) 
 
     module _ (fits : r .over ≡ false) where
       value : r .value ≡ read .v
-      value = read .value-kept ∙ rw (lt-ltb (read .v) (2 ^ 64) (leb-false (2 ^ 64) (read .v) (sym (read .value-over) ∙ fits)))
+      value = read .value-kept ∙ kept-fits 64 (read .v) (leb-false (2 ^ 64) (read .v) (sym (read .value-over) ∙ fits))
 
       pub too-large : most < r .value → notTaken ≡ numberUpTo most s
       too-large h = sym (decided false (lt-leb (read .v) most (omega (arith, value))))

@@ -1,25 +1,20 @@
--- `sum_from` reads a sum with no tree to write into.
+-- `sum_from` reads a sum from a place on, and unpacks what the reader answers.
+use Rattle.formula_scan.proofs.Packing.{same-read}
 use borrow.Author.Needs.{needs}
-use Rattle.formula_cursor.proofs.Wholes.{none-written}
 use Rattle.formula_cursor.proofs.sum_from.Statement.{statement}
 use Rattle.formula_cursor.proofs.sum_from.Tie as tie
-
-sub-read-sum : tie.Need-sub-read-sum
-sub-read-sum c = search needs
-
-part-none-start : tie.Need-part-none-start
-part-none-start c = search needs
-
-part-none-end : tie.Need-part-none-end
-part-none-end c = search needs
 
 read-sum-requires : tie.Need-read-sum-requires
 read-sum-requires c κs = search needs
 
+unpacked-requires : tie.Need-unpacked-requires
+unpacked-requires c κs = search needs
+
+same-length : tie.Need-same-length
+same-length c = search needs
+
 returns : tie.Need-returns
-returns c =
-    none-written (c .before .before .before .before .args .text .now) (c .before .before .before .before .args .place) (c .before .read-sum .result)
-    (c .before .read-sum .last .1 .0) (c .before .read-sum .ensures) (c .before .read-sum .kept .1 .0)
+returns c = same-read (c .unpacked .ensures) (c .before .before .before .read-sum .ensures)
 
 pub sum-from-spec : {M : Type 1} → statement M
-sum-from-spec = tie.close (tie.spec sub-read-sum part-none-start part-none-end read-sum-requires returns)
+sum-from-spec = tie.close (tie.spec read-sum-requires unpacked-requires same-length returns)

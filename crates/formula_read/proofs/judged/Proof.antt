@@ -21,14 +21,14 @@ returns-2 : tie.Need-returns-2
 returns-2 c =
     judged-deep (c .before .before .before .before .args .text .now) (c .before .deep-place .result) (omega arith) (c .before .deep-place .ensures) (omega arith)
 
-read-whole-requires : tie.Need-read-whole-requires
-read-whole-requires c κs = search needs
+scan-whole-requires : tie.Need-scan-whole-requires
+scan-whole-requires c κs = search needs
 
 returns-3 : tie.Need-returns-3
 returns-3 c =
     let text = c .before .before .before .before .before .before .before .args .text .now in
     let deep = c .before .before .before .before .deep-place in
-    let whole = c .before .before .read-whole in
+    let whole = c .before .before .scan-whole in
     whole-lost (whole .ensures) (omega arith) (shallow text (deep .result) (deep .ensures) (omega arith)) (not-true (whole .result .ok) (c .if3 .taken))
 
 nodes-fault-requires : tie.Need-nodes-fault-requires
@@ -41,7 +41,7 @@ returns-4 : tie.Need-returns-4
 returns-4 c =
     let text = c .before .before .before .before .before .before .before .before .before .before .args .text .now in
     let deep = c .before .before .before .before .before .before .before .deep-place in
-    let whole = c .before .before .before .before .before .read-whole in
+    let whole = c .before .before .before .before .before .scan-whole in
     let tree = whole-got (whole .ensures) (not-false (whole .result .ok) (c .before .before .before .if3 .left)) in
     judged-fault text (omega arith) (shallow text (deep .result) (deep .ensures) (omega arith)) [] (whole .result) [] (tree .0) (tree .1) (c .before .lesser .result)
     (c .before .lesser .ensures ∙ ap (λ k. min (whole .result .fault) k) (c .before .before .nodes-fault .ensures)) (omega arith)
@@ -50,7 +50,7 @@ returns-5 : tie.Need-returns-5
 returns-5 c =
     let text = c .before .before .before .before .before .before .before .before .before .before .args .text .now in
     let deep = c .before .before .before .before .before .before .before .deep-place in
-    let whole = c .before .before .before .before .before .read-whole in
+    let whole = c .before .before .before .before .before .scan-whole in
     let tree = whole-got (whole .ensures) (not-false (whole .result .ok) (c .before .before .before .if3 .left)) in
     judged-faultless text (omega arith) (shallow text (deep .result) (deep .ensures) (omega arith)) [] (whole .result) [] (tree .0) (tree .1) (c .before .lesser .result)
     (c .before .lesser .ensures ∙ ap (λ k. min (whole .result .fault) k) (c .before .before .nodes-fault .ensures)) (omega arith)
@@ -62,7 +62,7 @@ judged-spec =
     returns
     deep-place-requires
     returns-2
-    read-whole-requires
+    scan-whole-requires
     returns-3
     nodes-fault-requires
     lesser-requires

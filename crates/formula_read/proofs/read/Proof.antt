@@ -3,6 +3,7 @@ use native.Mathlib.Omega.{arith}
 use borrow.Author.Needs.{needs}
 use Rattle.formula.specs.Refusals.{too-short}
 use Rattle.formula_scan.proofs.Judging.{reading-refused, reading-accepted}
+use Rattle.formula_scan.proofs.Packing.{judged-packs}
 use Rattle.formula_read.proofs.read.Statement.{statement}
 use Rattle.formula_read.proofs.read.Tie as tie
 
@@ -20,7 +21,10 @@ returns-2 c =
     reading-refused text tree (judged .result) (omega arith) (judged .ensures) (c .if2 .taken)
 
 write-requires : tie.Need-write-requires
-write-requires c κs = search needs
+write-requires c κs =
+    let text = c .before .before .before .before .before .before .before .args .text .now in
+    let judged = c .before .before .before .judged in
+    (omega arith, judged-packs text (judged .result) (judged .ensures) (c .before .if2 .left))
 
 same-length : tie.Need-same-length
 same-length c = search needs

@@ -13,6 +13,7 @@ use borrow.Fn.PlainCycle.{Measures, is, falls, and}
 use Rattle.formula_scan.specs.declared.Found.{Found}
 use Rattle.formula_scan.proofs.Ways.{got-odd, got-few, product-place, sum-place, got, atom-x, atom-number, atom-bracket, no-atom, power-lost, power-plain, power-literal, no-exponent, raise-lost, power-raise, factor-lost, factor-got, ProductSoFar, product-onward, product-starts, product-lost, product-joined, product-ends, product-goes-on, SumSoFar, sum-onward, sum-starts, sum-lost, sum-joined, sum-ends, sum-goes-on, bracket-lost, bracket-open, bracket-closed}
 use Rattle.formula_scan.specs.Readers.{finding, withNode, put}
+use Rattle.formula_scan.proofs.Packing.{product-fault, sum-fault, stop-packs, same-read, sum-stops, got-fault, got-packs}
 use Rattle.formula_scan.proofs.Steps.{inside}
 use Rattle.formula_scan.proofs.Readings.{digit-test, no-digit-test}
 use Rattle.formula_readers.proofs.+read_atom+read_bracket+read_factor+read_power+read_product+read_sum.{statement}
@@ -52,6 +53,8 @@ use Rattle.formula_nodes.proofs.noted.Reads as noted-reads
 use Rattle.formula_nodes.proofs.faults.number_fault.Reads as number-fault-reads
 use Rattle.formula_nodes.proofs.starting.Reads as starting-reads
 use Rattle.formula_nodes.proofs.stopped.Reads as stopped-reads
+use Rattle.formula_packing.proofs.packed.Reads as packed-reads
+use Rattle.formula_packing.proofs.unpacked.Reads as unpacked-reads
 
 abbrev μ-read-atom : Measures 2 read-atom-kinds.ps ℕ
 μ-read-atom κs a = 8 * (length (a .0 .now) - a .1 .1 .0) + 1
@@ -149,7 +152,7 @@ read-atom-byte-at-requires : (t : ℕ) → read-atom-lts.Need-byte-at-requires (
 read-atom-byte-at-requires t c κs = search needs
 
 read-atom-read-bracket-requires : (t : ℕ) → read-atom-lts.Need-read-bracket-requires (read-atom-claims t) (read-atom-at t) read-atom.Post
-read-atom-read-bracket-requires t c κs = (omega (arith, (c .before .before .before .before .before .pre .0)), (inside (c .before .before .before .before .before .args .text .now) (c .before .before .before .before .before .args .at) (omega (arith, (c .before .before .byte-at .ensures), (c .before .if1 .taken))), (c .before .before .before .before .before .pre .1 .1 .0)))
+read-atom-read-bracket-requires t c κs = (omega (arith, (c .before .before .before .before .before .pre .0)), (inside (c .before .before .before .before .before .args .text .now) (c .before .before .before .before .before .args .at) (omega (arith, (c .before .before .byte-at .ensures), (c .before .if1 .taken))), ((c .before .before .before .before .before .pre .1 .1 .0), (c .before .before .before .before .before .pre .1 .1 .1 .1))))
 
 read-atom-same-length : (t : ℕ) → read-atom-lts.Need-same-length (read-atom-claims t) (read-atom-at t) read-atom.Post
 read-atom-same-length t c = search needs
@@ -176,7 +179,7 @@ read-atom-stopped-requires : (t : ℕ) → read-atom-lts.Need-stopped-requires (
 read-atom-stopped-requires t c κs = search needs
 
 read-atom-returns-3 : (t : ℕ) → read-atom-lts.Need-returns-3 (read-atom-claims t) (read-atom-at t) read-atom.Post
-read-atom-returns-3 t c = no-atom (c .before .before .before .before .before .before .before .before .args .text .now) (c .before .before .before .before .before .before .before .before .args .at) (c .before .before .before .before .before .before .before .before .args .nodes) (c .before .before .before .before .before .before .before .before .args .fault) _ _ _ (c .before .before .before .before .before .before .before .before .pre .1 .1 .1) (λ e. (c .before .before .before .before .if1 .left) ((c .before .before .before .before .before .byte-at .ensures) ∙ e)) (λ e. (c .before .before .before .if2 .left) ((c .before .before .before .before .before .byte-at .ensures) ∙ e)) (λ d. no-digit-test (c .before .before .before .before .before .byte-at .result) (sym (c .before .before .is-digit .ensures) ∙ not-true _ (c .before .if3 .taken)) (rw (c .before .before .before .before .before .byte-at .ensures) d)) (c .stopped .ensures)
+read-atom-returns-3 t c = no-atom (c .before .before .before .before .before .before .before .before .args .text .now) (c .before .before .before .before .before .before .before .before .args .at) (c .before .before .before .before .before .before .before .before .args .nodes) (c .before .before .before .before .before .before .before .before .args .fault) _ _ _ (c .before .before .before .before .before .before .before .before .pre .1 .1 .1 .0) (λ e. (c .before .before .before .before .if1 .left) ((c .before .before .before .before .before .byte-at .ensures) ∙ e)) (λ e. (c .before .before .before .if2 .left) ((c .before .before .before .before .before .byte-at .ensures) ∙ e)) (λ d. no-digit-test (c .before .before .before .before .before .byte-at .result) (sym (c .before .before .is-digit .ensures) ∙ not-true _ (c .before .if3 .taken)) (rw (c .before .before .before .before .before .byte-at .ensures) d)) (c .stopped .ensures)
 
 read-atom-read-number-requires : (t : ℕ) → read-atom-lts.Need-read-number-requires (read-atom-claims t) (read-atom-at t) read-atom.Post
 read-atom-read-number-requires t c κs = rw (← (c .before .before .before .before .byte-at .ensures)) (digit-test (c .before .before .before .before .byte-at .result) (sym (c .before .is-digit .ensures) ∙ not-false _ (c .if3 .left)))
@@ -200,6 +203,8 @@ abbrev read-bracket-claims : ℕ → read-bracket-lts.Claims
 read-bracket-claims t = (
   read-sum-below t,
   read-sum.Post,
+  unpacked-reads.Asked,
+  unpacked-reads.Learnt,
   stopped-reads.Asked,
   stopped-reads.Learnt,
   byte-at-reads.Asked,
@@ -212,7 +217,10 @@ read-bracket-add-read-sum : (t : ℕ) → read-bracket-lts.Need-add-read-sum (re
 read-bracket-add-read-sum t c = omega (arith, (c .before .before .before .pre .1 .0), (c .before .before .before .good .0 .0))
 
 read-bracket-read-sum-requires : (t : ℕ) → read-bracket-lts.Need-read-sum-requires (read-bracket-claims t) (read-bracket-at t) read-bracket.Post
-read-bracket-read-sum-requires t c κs = (omega (arith, (c .before .before .before .pre .0), (c .before .before .before .pre .1 .0)), (omega (arith, (c .before .before .before .pre .1 .0)), omega (arith, (c .before .before .before .pre .1 .1))))
+read-bracket-read-sum-requires t c κs = (omega (arith, (c .before .before .before .pre .0), (c .before .before .before .pre .1 .0)), (omega (arith, (c .before .before .before .pre .1 .0)), (omega (arith, (c .before .before .before .pre .1 .1 .0)), (c .before .before .before .pre .1 .1 .1))))
+
+read-bracket-unpacked-requires : (t : ℕ) → read-bracket-lts.Need-unpacked-requires (read-bracket-claims t) (read-bracket-at t) read-bracket.Post
+read-bracket-unpacked-requires t c κs = search needs
 
 read-bracket-stopped-requires : (t : ℕ) → read-bracket-lts.Need-stopped-requires (read-bracket-claims t) (read-bracket-at t) read-bracket.Post
 read-bracket-stopped-requires t c κs = search needs
@@ -221,7 +229,7 @@ read-bracket-same-length : (t : ℕ) → read-bracket-lts.Need-same-length (read
 read-bracket-same-length t c = search needs
 
 read-bracket-returns : (t : ℕ) → read-bracket-lts.Need-returns (read-bracket-claims t) (read-bracket-at t) read-bracket.Post
-read-bracket-returns t c = bracket-lost (c .before .before .before .before .before .before .before .before .before .args .text .now) (c .before .before .before .before .before .before .before .before .before .args .at) (c .before .before .before .before .before .before .before .before .before .args .nodes) (c .before .before .before .before .before .before .before .before .before .args .fault) _ (c .before .before .before .before .before .read-sum .result) _ (c .before .before .before .before .before .read-sum .ensures) (not-true _ (c .before .if1 .taken)) _ (c .stopped .ensures)
+read-bracket-returns t c = bracket-lost (c .before .before .before .before .before .before .before .before .before .before .args .text .now) (c .before .before .before .before .before .before .before .before .before .before .args .at) (c .before .before .before .before .before .before .before .before .before .before .args .nodes) (c .before .before .before .before .before .before .before .before .before .before .args .fault) _ (c .before .before .before .unpacked .result) _ (same-read (c .before .before .before .unpacked .ensures) (c .before .before .before .before .before .before .read-sum .ensures)) (not-true _ (c .before .if1 .taken)) _ (c .stopped .ensures)
 
 read-bracket-byte-at-requires : (t : ℕ) → read-bracket-lts.Need-byte-at-requires (read-bracket-claims t) (read-bracket-at t) read-bracket.Post
 read-bracket-byte-at-requires t c κs = search needs
@@ -233,16 +241,16 @@ read-bracket-same-length-2 : (t : ℕ) → read-bracket-lts.Need-same-length-2 (
 read-bracket-same-length-2 t c = search needs
 
 read-bracket-returns-2 : (t : ℕ) → read-bracket-lts.Need-returns-2 (read-bracket-claims t) (read-bracket-at t) read-bracket.Post
-read-bracket-returns-2 t c = bracket-open (c .before .before .before .before .before .before .before .before .before .before .before .args .text .now) (c .before .before .before .before .before .before .before .before .before .before .before .args .at) (c .before .before .before .before .before .before .before .before .before .before .before .args .nodes) (c .before .before .before .before .before .before .before .before .before .before .before .args .fault) _ (c .before .before .before .before .before .before .before .read-sum .result) _ (got (c .before .before .before .before .before .before .before .read-sum .ensures) (not-false _ (c .before .before .before .if1 .left))) (λ e. (c .before .if2 .taken) ((c .before .before .byte-at .ensures) ∙ e)) _ (c .stopped2 .ensures)
+read-bracket-returns-2 t c = bracket-open (c .before .before .before .before .before .before .before .before .before .before .before .before .args .text .now) (c .before .before .before .before .before .before .before .before .before .before .before .before .args .at) (c .before .before .before .before .before .before .before .before .before .before .before .before .args .nodes) (c .before .before .before .before .before .before .before .before .before .before .before .before .args .fault) _ (c .before .before .before .before .before .unpacked .result) _ (got (same-read (c .before .before .before .before .before .unpacked .ensures) (c .before .before .before .before .before .before .before .before .read-sum .ensures)) (not-false _ (c .before .before .before .if1 .left))) (λ e. (c .before .if2 .taken) ((c .before .before .byte-at .ensures) ∙ e)) _ (c .stopped2 .ensures)
 
 read-bracket-beyond-requires : (t : ℕ) → read-bracket-lts.Need-beyond-requires (read-bracket-claims t) (read-bracket-at t) read-bracket.Post
-read-bracket-beyond-requires t c κs = omega (arith, (c .before .before .before .before .before .before .before .before .before .before .good .0 .0), got (c .before .before .before .before .before .before .read-sum .ensures) (not-false _ (c .before .before .if1 .left)) .inside)
+read-bracket-beyond-requires t c κs = omega (arith, (c .before .before .before .before .before .before .before .before .before .before .before .good .0 .0), got (same-read (c .before .before .before .before .unpacked .ensures) (c .before .before .before .before .before .before .before .read-sum .ensures)) (not-false _ (c .before .before .if1 .left)) .inside)
 
 read-bracket-same-length-3 : (t : ℕ) → read-bracket-lts.Need-same-length-3 (read-bracket-claims t) (read-bracket-at t) read-bracket.Post
 read-bracket-same-length-3 t c = search needs
 
 read-bracket-returns-3 : (t : ℕ) → read-bracket-lts.Need-returns-3 (read-bracket-claims t) (read-bracket-at t) read-bracket.Post
-read-bracket-returns-3 t c = bracket-closed (c .before .before .before .before .before .before .before .before .before .before .before .args .text .now) (c .before .before .before .before .before .before .before .before .before .before .before .args .at) (c .before .before .before .before .before .before .before .before .before .before .before .args .nodes) (c .before .before .before .before .before .before .before .before .before .before .before .args .fault) _ (c .before .before .before .before .before .before .before .read-sum .result) _ (got (c .before .before .before .before .before .before .before .read-sum .ensures) (not-false _ (c .before .before .before .if1 .left))) (sym (c .before .before .byte-at .ensures) ∙ (c .before .if2 .left)) _ (c .beyond .ensures)
+read-bracket-returns-3 t c = bracket-closed (c .before .before .before .before .before .before .before .before .before .before .before .before .args .text .now) (c .before .before .before .before .before .before .before .before .before .before .before .before .args .at) (c .before .before .before .before .before .before .before .before .before .before .before .before .args .nodes) (c .before .before .before .before .before .before .before .before .before .before .before .before .args .fault) _ (c .before .before .before .before .before .unpacked .result) _ (got (same-read (c .before .before .before .before .before .unpacked .ensures) (c .before .before .before .before .before .before .before .before .read-sum .ensures)) (not-false _ (c .before .before .before .if1 .left))) (sym (c .before .before .byte-at .ensures) ∙ (c .before .if2 .left)) _ (c .beyond .ensures)
 
 abbrev read-factor-claims : ℕ → read-factor-lts.Claims
 read-factor-claims t = (
@@ -270,7 +278,7 @@ read-factor-sub-negated : (t : ℕ) → read-factor-lts.Need-sub-negated (read-f
 read-factor-sub-negated t c = search needs
 
 read-factor-negated-requires : (t : ℕ) → read-factor-lts.Need-negated-requires (read-factor-claims t) (read-factor-at t) read-factor.Post
-read-factor-negated-requires t c κs = let power = got (c .before .before .before .before .before .read-power .ensures) (not-false _ (c .before .if1 .left)) in (not-false _ (c .before .if1 .left), omega (arith, power .counted, power .room, power .inside, (c .before .before .before .before .before .before .before .after-minus-signs .ensures .onward), (c .before .before .before .before .before .before .before .before .before .before .pre .1 .1), (c .before .before .before .before .before .before .before .before .before .before .good .0 .1)))
+read-factor-negated-requires t c κs = let power = got (c .before .before .before .before .before .read-power .ensures) (not-false _ (c .before .if1 .left)) in (not-false _ (c .before .if1 .left), omega (arith, power .counted, power .room, power .inside, (c .before .before .before .before .before .before .before .after-minus-signs .ensures .onward), (c .before .before .before .before .before .before .before .before .before .before .pre .1 .1 .0), (c .before .before .before .before .before .before .before .before .before .before .good .0 .1)))
 
 read-factor-same-length-2 : (t : ℕ) → read-factor-lts.Need-same-length-2 (read-factor-claims t) (read-factor-at t) read-factor.Post
 read-factor-same-length-2 t c = search needs
@@ -359,7 +367,7 @@ read-power-lesser-requires : (t : ℕ) → read-power-lts.Need-lesser-requires (
 read-power-lesser-requires t c κs = search needs
 
 read-power-read-bracket-requires : (t : ℕ) → read-power-lts.Need-read-bracket-requires (read-power-claims t) (read-power-at t) read-power.Post
-read-power-read-bracket-requires t c κs = let base = got (c .before .before .before .before .before .before .before .before .before .before .before .before .before .read-atom .ensures) (not-false _ (c .before .before .before .before .before .before .before .before .before .if1 .left)) in (omega (arith, (c .before .before .before .before .before .before .before .before .before .before .before .before .before .before .before .before .before .pre .0), base .onward, base .inside, inside (c .before .before .before .before .before .before .before .before .before .before .before .before .before .before .before .before .before .args .text .now) (c .before .before .before .before .before .before .before .before .before .before .before .before .before .read-atom .result .at) (omega (arith, (c .before .before .before .before .before .before .before .before .byte-at .ensures), (c .before .before .before .before .before .before .before .if2 .left)))), (inside (c .before .before .before .before .before .before .before .before .before .before .before .before .before .before .before .before .before .args .text .now) ((c .before .before .before .before .before .before .before .before .before .before .before .before .before .read-atom .result .at) + 1) (omega (arith, (c .before .before .before .before .before .before .byte-at2 .ensures), (c .before .before .before .if4 .left))), omega (arith, base .counted, base .room, (c .before .before .before .before .before .before .before .before .before .before .before .before .before .before .before .before .before .pre .1 .1 .0))))
+read-power-read-bracket-requires t c κs = let base = got (c .before .before .before .before .before .before .before .before .before .before .before .before .before .read-atom .ensures) (not-false _ (c .before .before .before .before .before .before .before .before .before .if1 .left)) in (omega (arith, (c .before .before .before .before .before .before .before .before .before .before .before .before .before .before .before .before .before .pre .0), base .onward, base .inside, inside (c .before .before .before .before .before .before .before .before .before .before .before .before .before .before .before .before .before .args .text .now) (c .before .before .before .before .before .before .before .before .before .before .before .before .before .read-atom .result .at) (omega (arith, (c .before .before .before .before .before .before .before .before .byte-at .ensures), (c .before .before .before .before .before .before .before .if2 .left)))), (inside (c .before .before .before .before .before .before .before .before .before .before .before .before .before .before .before .before .before .args .text .now) ((c .before .before .before .before .before .before .before .before .before .before .before .before .before .read-atom .result .at) + 1) (omega (arith, (c .before .before .before .before .before .before .byte-at2 .ensures), (c .before .before .before .if4 .left))), (omega (arith, base .counted, base .room, (c .before .before .before .before .before .before .before .before .before .before .before .before .before .before .before .before .before .pre .1 .1 .0)), ((c .before .before .before .before .before .before .before .before .before .before .before .before .before .before .before .before .before .pre .1 .1 .1 .1 .0), omega (arith, (c .before .lesser .ensures), got-fault base, (c .before .before .before .before .before .before .before .before .before .before .before .before .before .before .before .before .before .pre .1 .1 .1 .1 .1))))))
 
 read-power-same-length-5 : (t : ℕ) → read-power-lts.Need-same-length-5 (read-power-claims t) (read-power-at t) read-power.Post
 read-power-same-length-5 t c = search needs
@@ -406,7 +414,7 @@ read-product-loop-holds : (t : ℕ) → read-product-lts.Need-loop-holds (read-p
 read-product-loop-holds t c = (product-starts _ (c .starting .ensures), refl)
 
 read-product-read-factor-requires : (t : ℕ) → read-product-lts.Need-read-factor-requires (read-product-claims t) (read-product-at t) read-product.Post read-product-Inv-loop read-product-μ-loop
-read-product-read-factor-requires t c κs = let so = product-onward (c .before .before .before .before .before .pre .1 .0) (c .before .loop .inv .0) in (omega (arith, (c .before .before .before .before .before .pre .0), so .after), (so .inside, so .few (c .before .before .before .before .before .pre .1 .1)))
+read-product-read-factor-requires t c κs = let so = product-onward (c .before .before .before .before .before .pre .1 .0) (c .before .loop .inv .0) in (omega (arith, (c .before .before .before .before .before .pre .0), so .after), (so .inside, (so .few (c .before .before .before .before .before .pre .1 .1 .0), ((c .before .before .before .before .before .pre .1 .1 .1 .0), omega (arith, product-fault (c .before .loop .inv .0), (c .before .before .before .before .before .pre .1 .1 .1 .1))))))
 
 read-product-same-length : (t : ℕ) → read-product-lts.Need-same-length (read-product-claims t) (read-product-at t) read-product.Post read-product-Inv-loop read-product-μ-loop
 read-product-same-length t c = search needs
@@ -415,7 +423,7 @@ read-product-returns : (t : ℕ) → read-product-lts.Need-returns (read-product
 read-product-returns t c = product-lost (c .before .before .before .before .before .before .loop .inv .0) (c .before .before .before .before .read-factor .ensures) (not-true _ (c .if1 .taken))
 
 read-product-joined-product-requires : (t : ℕ) → read-product-lts.Need-joined-product-requires (read-product-claims t) (read-product-at t) read-product.Post read-product-Inv-loop read-product-μ-loop
-read-product-joined-product-requires t c κs = let so = product-onward (c .before .before .before .before .before .before .before .before .before .before .before .pre .1 .0) (c .before .before .before .before .before .before .before .loop .inv .0) in let factor = got (c .before .before .before .before .before .read-factor .ensures) (not-false _ (c .before .if1 .left)) in (omega (arith, got-few factor (so .few (c .before .before .before .before .before .before .before .before .before .before .before .pre .1 .1)), factor .inside, (c .before .before .before .before .before .before .before .before .before .before .before .good .0 .1)), (so .odd-small, got-odd factor))
+read-product-joined-product-requires t c κs = let so = product-onward (c .before .before .before .before .before .before .before .before .before .before .before .pre .1 .0) (c .before .before .before .before .before .before .before .loop .inv .0) in let factor = got (c .before .before .before .before .before .read-factor .ensures) (not-false _ (c .before .if1 .left)) in (omega (arith, got-few factor (so .few (c .before .before .before .before .before .before .before .before .before .before .before .pre .1 .1 .0)), factor .inside, (c .before .before .before .before .before .before .before .before .before .before .before .good .0 .1)), (so .odd-small, got-odd factor))
 
 read-product-byte-at-requires : (t : ℕ) → read-product-lts.Need-byte-at-requires (read-product-claims t) (read-product-at t) read-product.Post read-product-Inv-loop read-product-μ-loop
 read-product-byte-at-requires t c κs = search needs
@@ -447,6 +455,10 @@ read-sum-claims t = (
   starting-reads.Learnt,
   read-product-below t,
   read-product.Post,
+  stopped-reads.Asked,
+  stopped-reads.Learnt,
+  packed-reads.Asked,
+  packed-reads.Learnt,
   joined-sum-reads.Asked,
   joined-sum-reads.Learnt,
   byte-at-reads.Asked,
@@ -464,16 +476,22 @@ read-sum-loop-holds : (t : ℕ) → read-sum-lts.Need-loop-holds (read-sum-claim
 read-sum-loop-holds t c = (sum-starts _ (c .starting .ensures), refl)
 
 read-sum-read-product-requires : (t : ℕ) → read-sum-lts.Need-read-product-requires (read-sum-claims t) (read-sum-at t) read-sum.Post read-sum-Inv-loop read-sum-μ-loop
-read-sum-read-product-requires t c κs = let so = sum-onward (c .before .before .before .before .before .pre .1 .0) (c .before .loop .inv .0) in (omega (arith, (c .before .before .before .before .before .pre .0), so .after), (so .inside, so .few (c .before .before .before .before .before .pre .1 .1)))
+read-sum-read-product-requires t c κs = let so = sum-onward (c .before .before .before .before .before .pre .1 .0) (c .before .loop .inv .0) in (omega (arith, (c .before .before .before .before .before .pre .0), so .after), (so .inside, (so .few (c .before .before .before .before .before .pre .1 .1 .0), ((c .before .before .before .before .before .pre .1 .1 .1 .0), omega (arith, sum-fault (c .before .loop .inv .0), (c .before .before .before .before .before .pre .1 .1 .1 .1))))))
+
+read-sum-stopped-requires : (t : ℕ) → read-sum-lts.Need-stopped-requires (read-sum-claims t) (read-sum-at t) read-sum.Post read-sum-Inv-loop read-sum-μ-loop
+read-sum-stopped-requires t c κs = search needs
+
+read-sum-packed-requires : (t : ℕ) → read-sum-lts.Need-packed-requires (read-sum-claims t) (read-sum-at t) read-sum.Post read-sum-Inv-loop read-sum-μ-loop
+read-sum-packed-requires t c κs = rw (c .stopped .ensures) (stop-packs (c .before .before .before .before .before .read-product .ensures) (not-true _ (c .before .if1 .taken)) (sum-onward (c .before .before .before .before .before .before .before .before .before .before .before .pre .1 .0) (c .before .before .before .before .before .before .before .loop .inv .0) .inside) (c .before .before .before .before .before .before .before .before .before .before .before .pre .1 .1 .1 .0))
 
 read-sum-same-length : (t : ℕ) → read-sum-lts.Need-same-length (read-sum-claims t) (read-sum-at t) read-sum.Post read-sum-Inv-loop read-sum-μ-loop
 read-sum-same-length t c = search needs
 
 read-sum-returns : (t : ℕ) → read-sum-lts.Need-returns (read-sum-claims t) (read-sum-at t) read-sum.Post read-sum-Inv-loop read-sum-μ-loop
-read-sum-returns t c = sum-lost (c .before .before .before .before .before .before .loop .inv .0) (c .before .before .before .before .read-product .ensures) (not-true _ (c .if1 .taken))
+read-sum-returns t c = same-read ((c .packed .ensures) ∙ (c .before .stopped .ensures)) (sum-stops (sum-lost (c .before .before .before .before .before .before .before .before .loop .inv .0) (c .before .before .before .before .before .before .read-product .ensures) (not-true _ (c .before .before .if1 .taken))) (not-true _ (c .before .before .if1 .taken)))
 
 read-sum-joined-sum-requires : (t : ℕ) → read-sum-lts.Need-joined-sum-requires (read-sum-claims t) (read-sum-at t) read-sum.Post read-sum-Inv-loop read-sum-μ-loop
-read-sum-joined-sum-requires t c κs = let so = sum-onward (c .before .before .before .before .before .before .before .before .before .before .before .pre .1 .0) (c .before .before .before .before .before .before .before .loop .inv .0) in let factor = got (c .before .before .before .before .before .read-product .ensures) (not-false _ (c .before .if1 .left)) in (omega (arith, got-few factor (so .few (c .before .before .before .before .before .before .before .before .before .before .before .pre .1 .1)), factor .inside, (c .before .before .before .before .before .before .before .before .before .before .before .good .0 .1)), (so .odd-small, got-odd factor))
+read-sum-joined-sum-requires t c κs = let so = sum-onward (c .before .before .before .before .before .before .before .before .before .before .before .pre .1 .0) (c .before .before .before .before .before .before .before .loop .inv .0) in let factor = got (c .before .before .before .before .before .read-product .ensures) (not-false _ (c .before .if1 .left)) in (omega (arith, got-few factor (so .few (c .before .before .before .before .before .before .before .before .before .before .before .pre .1 .1 .0)), factor .inside, (c .before .before .before .before .before .before .before .before .before .before .before .good .0 .1)), (so .odd-small, got-odd factor))
 
 read-sum-byte-at-requires : (t : ℕ) → read-sum-lts.Need-byte-at-requires (read-sum-claims t) (read-sum-at t) read-sum.Post read-sum-Inv-loop read-sum-μ-loop
 read-sum-byte-at-requires t c κs = search needs
@@ -481,11 +499,14 @@ read-sum-byte-at-requires t c κs = search needs
 read-sum-is-sign-requires : (t : ℕ) → read-sum-lts.Need-is-sign-requires (read-sum-claims t) (read-sum-at t) read-sum.Post read-sum-Inv-loop read-sum-μ-loop
 read-sum-is-sign-requires t c κs = search needs
 
+read-sum-packed-requires-2 : (t : ℕ) → read-sum-lts.Need-packed-requires-2 (read-sum-claims t) (read-sum-at t) read-sum.Post read-sum-Inv-loop read-sum-μ-loop
+read-sum-packed-requires-2 t c κs = got-packs (sum-joined (c .before .before .before .before .before .before .before .before .before .before .before .before .before .loop .inv .0) (c .before .before .before .before .before .before .before .before .before .before .before .read-product .ensures) (not-false _ (c .before .before .before .before .before .before .before .if1 .left)) (c .before .before .before .before .before .joined-sum .result) _ (c .before .before .before .before .before .joined-sum .ensures .0) (c .before .before .before .before .before .joined-sum .ensures .1)) (c .before .before .before .before .before .before .before .before .before .before .before .before .before .before .before .before .before .pre .1 .1 .0) (c .before .before .before .before .before .before .before .before .before .before .before .before .before .before .before .before .before .pre .1 .1 .1)
+
 read-sum-same-length-2 : (t : ℕ) → read-sum-lts.Need-same-length-2 (read-sum-claims t) (read-sum-at t) read-sum.Post read-sum-Inv-loop read-sum-μ-loop
 read-sum-same-length-2 t c = search needs
 
 read-sum-returns-2 : (t : ℕ) → read-sum-lts.Need-returns-2 (read-sum-claims t) (read-sum-at t) read-sum.Post read-sum-Inv-loop read-sum-μ-loop
-read-sum-returns-2 t c = sum-ends (sum-joined (c .before .before .before .before .before .before .before .before .before .before .before .before .before .loop .inv .0) (c .before .before .before .before .before .before .before .before .before .before .before .read-product .ensures) (not-false _ (c .before .before .before .before .before .before .before .if1 .left)) (c .before .before .before .before .before .joined-sum .result) _ (c .before .before .before .before .before .joined-sum .ensures .0) (c .before .before .before .before .before .joined-sum .ensures .1)) (sym (ap (λ b. eqb b 43 || eqb b 45) (c .before .before .byte-at .ensures)) ∙ sym (c .before .is-sign .ensures) ∙ not-true _ (c .if2 .taken))
+read-sum-returns-2 t c = same-read (c .packed2 .ensures) (sum-ends (sum-joined (c .before .before .before .before .before .before .before .before .before .before .before .before .before .before .loop .inv .0) (c .before .before .before .before .before .before .before .before .before .before .before .before .read-product .ensures) (not-false _ (c .before .before .before .before .before .before .before .before .if1 .left)) (c .before .before .before .before .before .before .joined-sum .result) _ (c .before .before .before .before .before .before .joined-sum .ensures .0) (c .before .before .before .before .before .before .joined-sum .ensures .1)) (sym (ap (λ b. eqb b 43 || eqb b 45) (c .before .before .before .byte-at .ensures)) ∙ sym (c .before .before .is-sign .ensures) ∙ not-true _ (c .before .if2 .taken)))
 
 read-sum-beyond-requires : (t : ℕ) → read-sum-lts.Need-beyond-requires (read-sum-claims t) (read-sum-at t) read-sum.Post read-sum-Inv-loop read-sum-μ-loop
 read-sum-beyond-requires t c κs = let whole = sum-joined (c .before .before .before .before .before .before .before .before .before .before .before .before .before .loop .inv .0) (c .before .before .before .before .before .before .before .before .before .before .before .read-product .ensures) (not-false _ (c .before .before .before .before .before .before .before .if1 .left)) (c .before .before .before .before .before .joined-sum .result) _ (c .before .before .before .before .before .joined-sum .ensures .0) (c .before .before .before .before .before .joined-sum .ensures .1) in omega (arith, whole .inside, (c .before .before .before .before .before .before .before .before .before .before .before .before .before .before .before .before .before .good .0 .1))
@@ -531,6 +552,7 @@ pub +read-atom+read-bracket+read-factor+read-power+read-product+read-sum-spec :
     read-bracket.Post
     (read-bracket-add-read-sum t)
     (read-bracket-read-sum-requires t)
+    (read-bracket-unpacked-requires t)
     (read-bracket-stopped-requires t)
     (read-bracket-same-length t)
     (read-bracket-returns t)
@@ -605,11 +627,14 @@ pub +read-atom+read-bracket+read-factor+read-power+read-product+read-sum-spec :
     (read-sum-starting-requires t)
     (read-sum-loop-holds t)
     (read-sum-read-product-requires t)
+    (read-sum-stopped-requires t)
+    (read-sum-packed-requires t)
     (read-sum-same-length t)
     (read-sum-returns t)
     (read-sum-joined-sum-requires t)
     (read-sum-byte-at-requires t)
     (read-sum-is-sign-requires t)
+    (read-sum-packed-requires-2 t)
     (read-sum-same-length-2 t)
     (read-sum-returns-2 t)
     (read-sum-beyond-requires t)
