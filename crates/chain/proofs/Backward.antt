@@ -10,6 +10,7 @@ use lib.Dec.{eqb}
 use borrow.Author.Tests.{eqb-true}
 use Rattle.word.specs.Word as Word
 use Rattle.word.proofs.Modulo.{outward, add-same, mul-same}
+use Rattle.word.proofs.Ring.{difference-sum}
 use Rattle.chain.specs.Chain.{value, rest, meeting, shiftFromTop, shifted, valueAt, words, withLast, withoutTrailing, trimmed}
 use Rattle.chain.specs.SumChain.{sumShift, sum, times, productBy}
 use Rattle.chain.specs.SumChain as SumChain
@@ -17,7 +18,7 @@ use Rattle.chain.specs.BackwardChain.{shift, inverseShift, after, valueA
 use Rattle.chain.proofs.Values as Values
 use Rattle.chain.proofs.Trimming.{value-trimmed}
 use Rattle.chain.proofs.SumLaws.{minus-is, product-by-none, product-by-value}
-use Rattle.chain.proofs.Shifting.{top-undoes-bottom, bottom-undoes-top, sum-undone, difference-undone, words-shift, words-from-top, sum-of-words, difference-of-words}
+use Rattle.chain.proofs.Shifting.{top-undoes-bottom, bottom-undoes-top, sum-undone, words-shift, words-from-top, sum-of-words, difference-of-words}
 use Rattle.chain.specs.Chain as Chain
 
 -- ---- the same step taken i times
@@ -55,7 +56,7 @@ module _ (w : ℕ) where
   shift-unshift f =
       forward-words (SumChain.inverseShift w f)
       ∙ ap (λ g. Chain.shift (Word.sum w) g) (forward-inverse-words f)
-      ∙ bottom-undoes-top w (Word.difference w) (Word.sum w) (difference-undone w) f
+      ∙ bottom-undoes-top w (Word.difference w) (Word.sum w) (difference-sum w) f
 
   pub backward-unshift-shift : (f : List ℕ) → inverseShift w (words w (shift f)) ≡ words w f
   backward-unshift-shift f =
@@ -65,7 +66,7 @@ module _ (w : ℕ) where
   backward-shift-unshift f =
       backward-words (inverseShift w f)
       ∙ ap (λ g. shiftFromTop (Word.sum w) g) (backward-inverse-words f)
-      ∙ top-undoes-bottom w (Word.difference w) (Word.sum w) (difference-undone w) f
+      ∙ top-undoes-bottom w (Word.difference w) (Word.sum w) (difference-sum w) f
 
   -- ---- the value ahead
   pub value-of-words : (f : List ℕ) → value 0 f % 2 ^ w ≡ value 0 (words w f)

@@ -8,13 +8,14 @@ use native.Mathlib.Omega.{arith}
 use lib.ListN.{length}
 use Rattle.word.specs.Word as Word
 use Rattle.word.proofs.Modulo.{outward}
+use Rattle.word.proofs.Ring.{difference-sum}
 use Rattle.chain.specs.Chain.{value, meeting, shiftFromTop, words, shift, shifted, valueAt}
 use Rattle.chain.specs.SumChain.{sumAt, sumShift}
 use Rattle.chain.specs.SumChain as SumChain
 use Rattle.chain.specs.BackwardChain.{after, valueAhead, valueBefore, convertedIn, converted, toBackward, toForward}
 use Rattle.chain.specs.BackwardChain as BackwardChain
 use Rattle.chain.proofs.SumLaws.{value-words}
-use Rattle.chain.proofs.Shifting.{length-shift, length-from-top, top-undoes-bottom, bottom-undoes-top, sum-undone, difference-undone, words-shift, words-from-top, difference-of-words}
+use Rattle.chain.proofs.Shifting.{length-shift, length-from-top, top-undoes-bottom, bottom-undoes-top, sum-undone, words-shift, words-from-top, difference-of-words}
 use Rattle.chain.proofs.Backward.{after-along, words-twice, ahead-words, forward-words, forward-inverse-words, backward-words, backward-inverse-words, value-of-words, ahead-as}
 
 -- The paper's equation: the first element stays, and the rest is converted after one step.
@@ -124,7 +125,7 @@ module _ (w : ℕ) (_⊙_ _⊘_ : ℕ → ℕ → ℕ)
       ∙ ap {B = List ℕ} (λ g. (a % 2 ^ w) ∷ g) (there-and-back f)
 
 module _ (w : ℕ) where
-  word-sum-of-words : (a b : ℕ) → Word.sum w a b % 2 ^ w ≡ Word.sum w (a % 2 ^ w) (b % 2 ^ w)
+  pub word-sum-of-words : (a b : ℕ) → Word.sum w a b % 2 ^ w ≡ Word.sum w (a % 2 ^ w) (b % 2 ^ w)
   word-sum-of-words a b = simp outward
 
   -- ---- conversions of words
@@ -140,26 +141,26 @@ module _ (w : ℕ) where
   forward-again f =
       to-forward-words (toBackward w (words w f))
       ∙ ap (λ g. converted (shiftFromTop (Word.sum w)) g) (to-backward-words (words w f) ∙ ap (λ g. toBackward w g) (words-twice w f))
-      ∙ there-and-back w (Word.sum w) (Word.difference w) (sum-undone w) (difference-undone w) word-sum-of-words (difference-of-words w) f
+      ∙ there-and-back w (Word.sum w) (Word.difference w) (sum-undone w) (difference-sum w) word-sum-of-words (difference-of-words w) f
 
   pub backward-again : (f : List ℕ) → toBackward w (words w (toForward f)) ≡ words w f
   backward-again f =
       ap (λ g. toBackward w g) (to-forward-words f)
-      ∙ there-and-back w (Word.difference w) (Word.sum w) (difference-undone w) (sum-undone w) (difference-of-words w) word-sum-of-words f
+      ∙ there-and-back w (Word.difference w) (Word.sum w) (difference-sum w) (sum-undone w) (difference-of-words w) word-sum-of-words f
 
   -- ---- "both kinds give the same word at every index", ahead of the present one and before it
   converted-ahead : (i : ℕ) (f : List ℕ) → toBackward w (words w (after sumShift i f)) ≡ after (shiftFromTop (Word.sum w)) i (toBackward w (words w f))
   converted-ahead i f =
       after-along (λ g. toBackward w (words w g)) sumShift (shiftFromTop (Word.sum w))
       (λ g. ap (λ h. toBackward w h) (forward-words w g)
-      ∙ convert-shift w (Word.sum w) (Word.difference w) (sum-undone w) (difference-undone w) word-sum-of-words (difference-of-words w) g) i f
+      ∙ convert-shift w (Word.sum w) (Word.difference w) (sum-undone w) (difference-sum w) word-sum-of-words (difference-of-words w) g) i f
 
   converted-before : (i : ℕ) (f : List ℕ)
       → toBackward w (words w (after (SumChain.inverseShift w) i f)) ≡ after (BackwardChain.inverseShift w) i (toBackward w (words w f))
   converted-before i f =
       after-along (λ g. toBackward w (words w g)) (SumChain.inverseShift w) (BackwardChain.inverseShift w)
       (λ g. ap (λ h. toBackward w h) (forward-inverse-words w g)
-      ∙ convert-unshift w (Word.sum w) (Word.difference w) (sum-undone w) (difference-undone w) word-sum-of-words (difference-of-words w) g) i f
+      ∙ convert-unshift w (Word.sum w) (Word.difference w) (sum-undone w) (difference-sum w) word-sum-of-words (difference-of-words w) g) i f
 
   shifted-after : (i : ℕ) (f : List ℕ) → shifted _+_ i f ≡ after sumShift i f
   unfolding shifted after

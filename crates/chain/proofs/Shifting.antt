@@ -135,9 +135,6 @@ module _ (w : ℕ) where
   sum-undone a b =
       sym (Ring.difference-unique w ((a + b) % 2 ^ w) b (a % 2 ^ w) (Ring.word-fits w a) (simp outward))
 
-  pub difference-undone : (a b : ℕ) → Word.sum w (Word.difference w a b) b ≡ a % 2 ^ w
-  difference-undone a b = Ring.difference-sum w a b
-
   pub words-shift : (_⊙_ _⊞_ : ℕ → ℕ → ℕ) → ((a b : ℕ) → _⊙_ a b % 2 ^ w ≡ _⊞_ (a % 2 ^ w) (b % 2 ^ w))
       → (f : List ℕ) → words w (shift _⊙_ f) ≡ shift _⊞_ (words w f)
   unfolding shift

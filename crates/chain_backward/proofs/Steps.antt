@@ -18,7 +18,7 @@ use Rattle.chain.specs.BackwardAnswer.{changed, inverseShiftOutcome, backwardSh
 use Rattle.chain.proofs.Rows.{words-whole}
 use Rattle.chain.proofs.Shifting.{length-shift, length-from-top, words-shift, words-from-top}
 use Rattle.chain.proofs.Backward.{forward-inverse-words, backward-words}
-use Rattle.chain.proofs.Conversions.{length-converted, to-forward-words}
+use Rattle.chain.proofs.Conversions.{length-converted, word-sum-of-words, to-forward-words}
 use Rattle.chain.proofs.BackwardCalls.{top-pads, bottom-pads, converted-pads, given-words, changed-trims}
 use Rattle.chain_arrays.specs.declared.Operation.the-variants.{Difference}
 use Rattle.chain_arrays.specs.Operations.{joining, shiftedBy}
@@ -80,9 +80,6 @@ module _ (f : List ℕ) (k : ℕ) (long : length f ≡ 17) (fits : (i : ℕ) →
   to-forward-done =
       done (converted (shiftFromTop (Word.sum 64))) (λ c. words 64 (BackwardChain.toForward c))
       (length-converted (shiftFromTop (Word.sum 64)) (length-from-top (Word.sum 64)))
-      (converted-pads 64 (shiftFromTop (Word.sum 64)) (length-from-top (Word.sum 64)) (words-from-top 64 (Word.sum 64) (Word.sum 64) sum-of-sums)
+      (converted-pads 64 (shiftFromTop (Word.sum 64)) (length-from-top (Word.sum 64)) (words-from-top 64 (Word.sum 64) (Word.sum 64) (word-sum-of-words 64))
       (top-pads 64 (Word.sum 64) (sum-zero 64)))
       (ap (λ g. converted (shiftFromTop (Word.sum 64)) g) (sym (given-words 64 f k long fits)) ∙ sym (to-forward-words 64 (given f k)))
-    where
-      sum-of-sums : (a b : ℕ) → Word.sum 64 a b % 2 ^ 64 ≡ Word.sum 64 (a % 2 ^ 64) (b % 2 ^ 64)
-      sum-of-sums a b = simp outward
