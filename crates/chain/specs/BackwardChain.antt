@@ -1,7 +1,8 @@
 -- Backward sum chains, by document 000: ⟨φ0, +, φ1, .., +, φk⟩ is the list of its elements, as a forward chain is. Its value and its trimming are the forward
 -- chain's, and so is its sum: "Most of the CR-simplification rules .. turn into BCR-simplification rules by substituting ⟨ and ⟩". What differs is here.
+-- The paper's formulas are for any operator ⊙; "for sums only" (request Four of 02), so + stands for it in what is quoted, and - for its inverse.
 use mathlib.Core.List.{List, [], _∷_}
-use Prim.Native.Nat.{ℕ, zero, suc, _+_, _*_}
+use Prim.Native.Nat.{ℕ, zero, suc, _+_}
 use lib.ListN.{length}
 use Rattle.word.specs.Word as Word
 use Rattle.chain.specs.Chain as Chain
