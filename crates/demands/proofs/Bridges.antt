@@ -7,8 +7,8 @@ use Prim.Native.Nat.{ℕ, zero, suc, _+_, _-_, _*_, _/_, _%_, _^_, _≤_, _<_, m
 use native.Mathlib.Nat.{div-self}
 use native.Mathlib.Omega.{arith}
 use lib.Dec.{eqb, ltb}
-use lib.ListN.{length, getD, take, drop, length-append, length-map, length-take, List·getD-eq-default, List·getD-append}
-use lib.Seq.{slice, getD-at, getD-drop, getD-take}
+use lib.ListN.{length, getD, take, drop, length-map, length-take, List·getD-eq-default, List·getD-append}
+use lib.Seq.{slice, getD-drop, getD-take}
 use borrow.Author.Tests.{ltb-true, ltb-false, lt-ltb, eqb-true, eqb-false}
 use Rattle.formula.specs.Words.{mostNodes}
 use Rattle.plan.specs.Measures.{planLength, rowLength, mostRows, rowStart}
@@ -40,11 +40,11 @@ use Rattle.chain.proofs.Shifting.{length-shift}
 use Rattle.chain.proofs.Calls.{length-joined, length-product}
 use Rattle.chain.proofs.CoefficientLaws.{value-coefficients, row-coefficients}
 use Rattle.fold.specs.Folding.{fold}
-use Rattle.fold.specs.Folded.{Folded}
 use Rattle.fold.specs.Layout.{rowCount, planWords}
 use Rattle.fold.specs.RowSpans.{Ordered, Says}
-use Rattle.fold.proofs.ReadBack.{take-row, rows-of, some-rows, row-back}
-use Rattle.fold.proofs.Origins.{rootWords, operandRows, root-last, root-first, root-end, rows-come}
+use Rattle.fold.proofs.ReadBack.{take-row, row-back}
+use Rattle.fold.proofs.Origins.{root-first, root-end, rows-come}
+use Rattle.fold.proofs.RowMeaning.{plan-root}
 use Rattle.fold.proofs.Compiled as Compiled
 use Rattle.fold.specs.OneChain.{OneSum, SameChain}
 use Rattle.fold.specs.declared.CompileAnswer.{CompileAnswer}
@@ -413,17 +413,6 @@ other-rows p sound r j past few here =
     place : rowStart r + j ≡ rowStart (Plan.rowCount p) + behind
     place = omega arith
 
--- The root row of a plan.
-root-row : (whole : Span) (a : Folded) (rest : List ℕ) → Plan.row (planWords whole a ++ rest) (rowCount a - 1) ≡ rootWords 0 a whole
-root-row whole a rest =
-    row-back whole a rest (rowCount a - 1) (omega (arith, some-rows a))
-    ∙ ap (λ f. getD f (rowCount a - 1) []) (root-last 0 whole a)
-    ∙ getD-at (operandRows 0 a) (rootWords 0 a whole) [] [] (rowCount a - 1) count
-  where
-    count : length (operandRows 0 a) ≡ rowCount a - 1
-    count =
-        omega (arith, rows-of 0 whole a .count, ap length (root-last 0 whole a), length-append (operandRows 0 a) (rootWords 0 a whole ∷ []))
-
 module _ {s : List ℕ} {start step : ℕ} {lent : List ℕ} {r : CompileAnswer} {q : List ℕ} (call : Compiling 64 s start step lent r q)
     (nought : r .number ≡ 0) where
   -- What holds of the plan of every accepted formula holds of the one that is left.
@@ -452,7 +441,7 @@ module _ {s : List ℕ} {start step : ℕ} {lent : List ℕ} {r : CompileAnswer}
     pub its-root : (firstByte (rootRow q) ≡ first (spanOf t)) × (endByte (rootRow q) ≡ end (spanOf t))
     its-root =
         let folded = fold 64 start step t in
-        let root = ap rootRow (leaves call nought means) ∙ root-row (spanOf t) folded (drop planLength lent) in
+        let root = ap rootRow (leaves call nought means) ∙ plan-root (spanOf t) folded (drop planLength lent) in
         (ap (λ x. firstByte x) root ∙ root-first 0 folded (spanOf t), ap (λ x. endByte x) root ∙ root-end 0 folded (spanOf t))
 
     pub its-node : (i : ℕ) → i < Plan.rowCount q

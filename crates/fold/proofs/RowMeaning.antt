@@ -76,7 +76,7 @@ same-root n m s k a b e = record {
     kinds = sym (kind-bare a) ∙ ap kindOf e ∙ kind-bare b
 
 -- The root row of a plan.
-plan-root : (whole : Span) (a : Folded) (rest : List ℕ) → Plan.row (planWords whole a ++ rest) (rowCount a - 1) ≡ rootWords 0 a whole
+pub plan-root : (whole : Span) (a : Folded) (rest : List ℕ) → Plan.row (planWords whole a ++ rest) (rowCount a - 1) ≡ rootWords 0 a whole
 plan-root whole a rest =
     ap (λ n. Plan.row (planWords whole a ++ rest) (n - 1)) (sym (zero-add (rowCount a)))
     ∙ root-stands (Plan.row (planWords whole a ++ rest)) 0 whole a stands
