@@ -1,5 +1,5 @@
 -- The first row of an operand, found from its root: an operator's row names the root of its left or only operand, and that begins at the same row.
-use mathlib.Core.Path.{_≡_, refl, sym, ap, subst, _∙_}
+use mathlib.Core.Path.{_≡_, refl, ap, subst, _∙_}
 use mathlib.Core.List.{List, [], _∷_, _++_}
 use Prim.Native.Nat.{ℕ, _+_, _-_, _≤_, _<_}
 use native.Mathlib.Omega.{arith}
@@ -37,12 +37,12 @@ module _ (p : List ℕ) (n : ℕ) where
   root (constant c) h = leaf (omega arith) refl
   root (sumChain f) h = leaf (omega arith) refl
   root (productChain f) h = leaf (omega arith) refl
-  root (sumRow s a b) h = operator (s .left) a (omega arith) (held-first _ _ h) (omega (arith, some-rows a)) (omega arith)
-  root (differenceRow s a b) h = operator (s .left) a (omega arith) (held-first _ _ h) (omega (arith, some-rows a)) (omega arith)
-  root (productRow s a b) h = operator (s .left) a (omega arith) (held-first _ _ h) (omega (arith, some-rows a)) (omega arith)
+  root (sumRow s a b) h = operator (s .left) a (omega arith) (held-first (rowsFrom n (s .left) a) (rowsFrom (n + rowCount a) (s .right) b) h) (omega (arith, some-rows a)) (omega arith)
+  root (differenceRow s a b) h = operator (s .left) a (omega arith) (held-first (rowsFrom n (s .left) a) (rowsFrom (n + rowCount a) (s .right) b) h) (omega (arith, some-rows a)) (omega arith)
+  root (productRow s a b) h = operator (s .left) a (omega arith) (held-first (rowsFrom n (s .left) a) (rowsFrom (n + rowCount a) (s .right) b) h) (omega (arith, some-rows a)) (omega arith)
   root (minusRow s a) h = operator s a (omega arith) h (omega (arith, some-rows a)) (omega arith)
   root (powerRow s a m) h = operator s a (omega arith) h (omega (arith, some-rows a)) (omega arith)
-  root (raiseRow s a b) h = operator (s .left) a (omega arith) (held-first _ _ h) (omega (arith, some-rows a)) (omega arith)
+  root (raiseRow s a b) h = operator (s .left) a (omega arith) (held-first (rowsFrom n (s .left) a) (rowsFrom (n + rowCount a) (s .right) b) h) (omega (arith, some-rows a)) (omega arith)
 
 -- ---- the way down from an operand's root
 -- Row r is the root of a tree that begins where the operand does.

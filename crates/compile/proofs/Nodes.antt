@@ -13,20 +13,20 @@ use Rattle.plan.specs.Plan as Plan
 use Rattle.chain.specs.Chain.{trimmed, withoutTrailing, withLast, words}
 use Rattle.formula.specs.Tree as Tree
 use Rattle.formula.specs.Tree.{Span, span, Tree, spanOf}
-use Rattle.fold.specs.Folded.{Spans, Folded, constant, ofSum, trimmedSum}
+use Rattle.fold.specs.Folded.{Folded, constant, ofSum, trimmedSum}
 use Rattle.fold.specs.Folding.{operands, fold, foldMinus, foldPower}
 use Rattle.fold.specs.Layout.{rowCount}
 use Rattle.fold.proofs.Shape.{WellFormed}
 use Rattle.fold.proofs.FoldShape.{minus-rows, power-rows, sum-rows, difference-rows, product-rows, raise-rows}
 use Rattle.fold.proofs.ReadBack.{some-rows}
 use Rattle.fold_rows.specs.Standing.{withRow, withSpan, placed, noSpan}
-use Rattle.fold_rows.proofs.Stood.{span-placed}
+use Rattle.fold_rows.proofs.Stood.{placed-over, span-placed}
 use Rattle.fold_operands.specs.Operands.{Operand, Operands, One, Two, Left, Folds, FoldsBoth}
 use Rattle.compile.specs.Machine.{Finishes, Stack, Ends, FirstRow, Compilable, Working, Grown, foldBoth}
 use Rattle.compile.proofs.Finishing.{top-part, nodes-left, node-kind}
 use Rattle.compile.proofs.Finishing.{view-number, view-variable, view-minus, view-power, view-sum, view-difference, view-product, view-raise}
-use Rattle.compile.proofs.Stacking.{left-before, left-behind, left-end-one, left-end-both, left-stands}
-use Rattle.compile.proofs.Stacking.{stack-rows, stack-ends, stack-one, stack-both, stack-kept, stack-put}
+use Rattle.compile.proofs.Stacking.{left-behind, left-end-one, left-end-both, left-stands}
+use Rattle.compile.proofs.Stacking.{stack-rows, stack-ends, stack-one, stack-both, stack-put}
 
 -- A number is its own chain, and x that of the grid.
 pair-number : (v : ℕ) → v < 2 ^ 64 → trimmedSum (v ∷ 0 ∷ []) ≡ constant (v % 2 ^ 64)
@@ -258,26 +258,29 @@ module _ (start step : ℕ) (p : List ℕ) (end : ℕ) (long : planLength ≤ le
     formed : WellFormed 64 (fold 64 start step (grown .tree))
     formed = comp .formed (grown .tree) (top-part (grown .finishes))
 
-    put : {q′ : List ℕ} → q′ ≡ withRow q (r - 1) (withSpan (Plan.row q (r - 1)) whole) → Left q (grown .first) (fold 64 start step (grown .tree)) r q′
-    put e = record {
-      under = whole;
-      words =
-          e
-          ∙ ap (λ k. withRow q (k - 1) (withSpan (Plan.row q (k - 1)) whole)) (grown .left .behind)
-          ∙ span-placed q (grown .first) (grown .left .under) whole (fold 64 start step (grown .tree)) (left-stands (grown .left) room formed .stands);
-      behind = grown .left .behind;
-    }
+    put : {q′ : List ℕ} → q′ ≡ withRow q (r - 1) (withSpan (Plan.row q (r - 1)) whole) → Left p (grown .first) (fold 64 start step (grown .tree)) r q′
+    put e =
+        let n = grown .first in
+        let f = fold 64 start step (grown .tree) in
+        let left = grown .left in
+        record {
+          under = whole;
+          words =
+              e
+              ∙ span-placed q n r (left .under) whole f (omega (arith, room, same)) (left .behind) (left-stands left room formed .stands)
+              ∙ ap (λ q. placed q n whole f) (left .words)
+              ∙ placed-over p n (left .under) f room whole f (omega arith);
+          behind = left .behind;
+        }
 
     pub spanned : {q′ : List ℕ} → q′ ≡ withRow q (r - 1) (withSpan (Plan.row q (r - 1)) whole)
         → Working t start step q′ r more × ((i : ℕ) → rowStart (end + 1) ≤ i → drop i q′ ≡ drop i p)
+    unfolding put
     spanned {q′} e = (
       record {
         done = grown .tree ∷ grown .done;
-        stands =
-            stack-put start step q q′ (grown .tree) (grown .done) (grown .first) r (put e) (sym (grown .own))
-            (stack-kept start step p q (grown .done) (grown .first) (left-before (grown .left) room) (grown .stays)) (omega (arith, room)) formed;
+        stands = stack-put start step p q′ (grown .tree) (grown .done) (grown .first) r (put e) (sym (grown .own)) (grown .stays) room formed;
         finishes = grown .finishes;
       },
-      λ i h. left-behind (put e) (omega (arith, room)) i (omega (arith, grown .most))
-          ∙ left-behind (grown .left) room i (omega (arith, grown .most)),
+      λ i h. left-behind (put e) room i (omega (arith, grown .most)),
     )

@@ -7,7 +7,7 @@ use lib.ListN.{length, take, drop}
 use lib.Seq.{take-take}
 use Rattle.plan.specs.Measures.{rowLength, rowStart}
 use Rattle.plan.proofs.RowLaws.{slice-part}
-use Rattle.formula.specs.Tree.{Span, span, Tree, spanOf}
+use Rattle.formula.specs.Tree.{Span, Tree, spanOf}
 use Rattle.fold.specs.Folded.{Spans, Folded}
 use Rattle.fold.specs.Folding.{operands, fold}
 use Rattle.fold.specs.Layout.{rowCount, rowsFrom, wordsOf}
@@ -36,7 +36,7 @@ module _ {p q : List ℕ} {n r : ℕ} {f : Folded} (left : Left p n f r q) where
   pub left-end-both : {middle end : ℕ} {s : Spans} {a b : Folded} → Operands p n middle end s a b → rowCount f ≤ rowCount a + rowCount b + 1 → r ≤ end + 1
   left-end-both operands h = omega (arith, left .behind, operands .first .behind, operands .second .behind)
 
-  left-stands : rowStart n ≤ length p → WellFormed 64 f → Operand q n r (left .under) f
+  pub left-stands : rowStart n ≤ length p → WellFormed 64 f → Operand q n r (left .under) f
   left-stands room formed = record {
     stands = subst (λ l. Stands l n (left .under) f) (sym (left .words)) (placed-stands p n (left .under) f room);
     behind = left .behind;
