@@ -63,8 +63,8 @@ module _ (start step : ℕ) (p : List ℕ) (end : ℕ) (long : planLength ≤ le
 
     -- ---- what the node leaves behind the trees that stay
     next : {q : List ℕ} {n r : ℕ} (u : Tree) (rest : List Tree) (f : Folded) → spanOf u ≡ whole → Stack start step p rest n → Finishes t (u ∷ rest) more
-        → fold 64 start step u ≡ f → Left p n f r q → n ≤ end → r ≤ end + 1 → Next q r
-    next {q} {n} {r} u rest f own stays fin same left within most = record {
+        → fold 64 start step u ≡ f → Left p n f r q → r ≤ end + 1 → Next q r
+    next {q} {n} {r} u rest f own stays fin same left most = record {
       done = rest;
       tree = u;
       first = n;
@@ -72,7 +72,6 @@ module _ (start step : ℕ) (p : List ℕ) (end : ℕ) (long : planLength ≤ le
       stays = stays;
       finishes = fin;
       left = subst (λ f. Left p n f r q) (sym same) left;
-      within = within;
       most = most;
     }
 
@@ -81,7 +80,6 @@ module _ (start step : ℕ) (p : List ℕ) (end : ℕ) (long : planLength ≤ le
         → q ≡ placed p end noSpan f → Next q (end + 1)
     pushed u f own same one fin put =
         next u (work .done) f own (work .stands) fin same (record { under = noSpan; words = put; behind = omega (arith, one) }) (omega arith)
-        (omega arith)
 
     pub number-pushed : {q : List ℕ} → k ≡ 0 → q ≡ placed p end noSpan (trimmedSum (v ∷ 0 ∷ [])) → Next q (end + 1)
     unfolding fold
@@ -111,8 +109,7 @@ module _ (start step : ℕ) (p : List ℕ) (end : ℕ) (long : planLength ≤ le
       one-folded a u rest operator is own same rows fin folds =
           let (operand, stays) = on-top a rest is in
           let left = folds (spanOf a) (fold 64 start step a) operand in
-          next u rest (operator (spanOf a) (fold 64 start step a)) own stays fin same left (omega (arith, operand .behind))
-          (left-end-one left operand rows)
+          next u rest (operator (spanOf a) (fold 64 start step a)) own stays fin same left (left-end-one left operand rows)
 
       pub minus-folded : {q : List ℕ} {r : ℕ} → k ≡ 6 → Folds (foldMinus 64) p top end r q → Next q r
       unfolding fold
@@ -228,8 +225,7 @@ module _ (start step : ℕ) (p : List ℕ) (end : ℕ) (long : planLength ≤ le
             let (a, b, u, rest, is, own, same, rows, fin) = two-operands no0 no1 no6 no7 in
             let (stand, stays) = both a b rest is in
             let left = folds (operands a b) (fold 64 start step a) (fold 64 start step b) stand in
-            next u rest (folded k a b) own stays fin same left (omega (arith, stand .first .behind, stand .second .behind))
-            (left-end-both left stand rows)
+            next u rest (folded k a b) own stays fin same left (left-end-both left stand rows)
 
     -- Whatever operator it is, an operand stands.
     pub top-asked : (k ≡ 0 → ⊥) → (k ≡ 1 → ⊥) → Ends p end
@@ -253,7 +249,7 @@ module _ (start step : ℕ) (p : List ℕ) (end : ℕ) (long : planLength ≤ le
     root-row = (omega (arith, grown .left .behind, some-rows (fold 64 start step (grown .tree))), omega (arith, grown .most))
 
     room : rowStart (grown .first) ≤ length p
-    room = omega (arith, grown .within)
+    room = omega (arith, grown .most, grown .left .behind, some-rows (fold 64 start step (grown .tree)))
 
     formed : WellFormed 64 (fold 64 start step (grown .tree))
     formed = comp .formed (grown .tree) (top-part (grown .finishes))

@@ -94,7 +94,6 @@ pub record Grown (t : Tree) (start step : ℕ) (p : List ℕ) (end : ℕ) (whole
   pub stays : Stack start step p done first
   pub finishes : Finishes t (tree ∷ done) words
   pub left : Left p first (fold 64 start step tree) r q
-  pub within : first ≤ end
   pub most : r ≤ end + 1
 
 -- A step that folds the node, whichever tree it is on the way to.
