@@ -20,7 +20,7 @@ use Rattle.fold.proofs.Shape.{WellFormed}
 use Rattle.fold.proofs.FoldShape.{minus-rows, power-rows, sum-rows, difference-rows, product-rows, raise-rows}
 use Rattle.fold.proofs.ReadBack.{some-rows}
 use Rattle.fold_rows.specs.Standing.{withRow, withSpan, placed, noSpan}
-use Rattle.fold_rows.proofs.Stood.{placed-over, span-placed}
+use Rattle.fold_rows.proofs.Stood.{room-left, placed-over, span-placed}
 use Rattle.fold_operands.specs.Operands.{Operand, Operands, One, Two, Left, Folds, FoldsBoth}
 use Rattle.compile.specs.Machine.{Finishes, Stack, Ends, FirstRow, Compilable, Working, Grown, foldBoth}
 use Rattle.compile.proofs.Finishing.{top-part, nodes-left, node-kind}
@@ -73,6 +73,7 @@ module _ (start step : ℕ) (p : List ℕ) (end : ℕ) (long : planLength ≤ le
       finishes = fin;
       left = subst (λ f. Left p n f r q) (sym same) left;
       most = most;
+      few = few-rows;
     }
 
     -- ---- a number or x
@@ -243,40 +244,44 @@ module _ (start step : ℕ) (p : List ℕ) (end : ℕ) (long : planLength ≤ le
             ends (b .1) (b .0 ∷ b .3) (b .4)
 
   -- ---- the node's span, put on the root row of its tree
-  module _ {t : Tree} {more q : List ℕ} {whole : Span} {r : ℕ} (comp : Compilable start step t) (grown : Grown t start step p end whole more q r)
-      (few : end < mostRows) (same : length q ≡ length p) where
+  module _ {t : Tree} {more q : List ℕ} {whole : Span} {r : ℕ} (grown : Grown t start step p end whole more q r) where
+    some : 1 ≤ rowCount (fold 64 start step (grown .tree))
+    some = some-rows (fold 64 start step (grown .tree))
+
     pub root-row : (1 ≤ r) × (r ≤ mostRows)
-    root-row = (omega (arith, grown .left .behind, some-rows (fold 64 start step (grown .tree))), omega (arith, grown .most))
+    root-row = (omega (arith, grown .left .behind, some), omega (arith, grown .most, grown .few))
 
     room : rowStart (grown .first) ≤ length p
-    room = omega (arith, grown .most, grown .left .behind, some-rows (fold 64 start step (grown .tree)))
+    room = omega (arith, grown .most, grown .few, grown .left .behind, some)
 
-    formed : WellFormed 64 (fold 64 start step (grown .tree))
-    formed = comp .formed (grown .tree) (top-part (grown .finishes))
+    formed : Compilable start step t → WellFormed 64 (fold 64 start step (grown .tree))
+    formed comp = comp .formed (grown .tree) (top-part (grown .finishes))
 
-    put : {q′ : List ℕ} → q′ ≡ withRow q (r - 1) (withSpan (Plan.row q (r - 1)) whole) → Left p (grown .first) (fold 64 start step (grown .tree)) r q′
-    put e =
+    put : {q′ : List ℕ} → Compilable start step t → q′ ≡ withRow q (r - 1) (withSpan (Plan.row q (r - 1)) whole)
+        → Left p (grown .first) (fold 64 start step (grown .tree)) r q′
+    put comp e =
         let n = grown .first in
         let f = fold 64 start step (grown .tree) in
         let left = grown .left in
+        let still = subst (λ l. rowStart n ≤ length l) (sym (left .words)) (room-left p n (left .under) f room) in
         record {
           under = whole;
           words =
               e
-              ∙ span-placed q n r (left .under) whole f (omega (arith, room, same)) (left .behind) (left-stands left room formed .stands)
+              ∙ span-placed q n r (left .under) whole f still (left .behind) (left-stands left room (formed comp) .stands)
               ∙ ap (λ q. placed q n whole f) (left .words)
               ∙ placed-over p n (left .under) f room whole f (omega arith);
           behind = left .behind;
         }
 
-    pub spanned : {q′ : List ℕ} → q′ ≡ withRow q (r - 1) (withSpan (Plan.row q (r - 1)) whole)
+    pub spanned : {q′ : List ℕ} → Compilable start step t → q′ ≡ withRow q (r - 1) (withSpan (Plan.row q (r - 1)) whole)
         → Working t start step q′ r more × ((i : ℕ) → rowStart (end + 1) ≤ i → drop i q′ ≡ drop i p)
     unfolding put
-    spanned {q′} e = (
+    spanned {q′} comp e = (
       record {
         done = grown .tree ∷ grown .done;
-        stands = stack-put start step p q′ (grown .tree) (grown .done) (grown .first) r (put e) (sym (grown .own)) (grown .stays) room formed;
+        stands = stack-put start step p q′ (grown .tree) (grown .done) (grown .first) r (put comp e) (sym (grown .own)) (grown .stays) room (formed comp);
         finishes = grown .finishes;
       },
-      λ i h. left-behind (put e) room i (omega (arith, grown .most)),
+      λ i h. left-behind (put comp e) room i (omega (arith, grown .most)),
     )

@@ -95,6 +95,7 @@ pub record Grown (t : Tree) (start step : ℕ) (p : List ℕ) (end : ℕ) (whole
   pub finishes : Finishes t (tree ∷ done) words
   pub left : Left p first (fold 64 start step tree) r q
   pub most : r ≤ end + 1
+  pub few : end < mostRows
 
 -- A step that folds the node, whichever tree it is on the way to.
 abbrev pub FoldsNode : ℕ → ℕ → List ℕ → ℕ → ℕ → ℕ → List ℕ → ℕ → Type 0
