@@ -142,22 +142,28 @@ module _ {p : List ℕ} {left middle end : ℕ} {s : Spans} {a b : Folded} (o : 
   place = omega (arith, o .first .behind, o .second .behind)
 
   module _ (room : rowStart left ≤ length p) {q : List ℕ} where
-    -- The left one is a constant that the rule drops: the right one moves down.
-    pub moves : (n : ℕ) → is n a ≡ true → q ≡ movedDown middle (end - middle) p → Left p left b (end - 1) q
-    moves n e move = record {
-      under = s .right;
-      words =
+    -- The left one is a constant that the rule drops: the right one moves down, and is an operand there under its own span.
+    module _ (n : ℕ) (e : is n a ≡ true) (move : q ≡ movedDown middle (end - middle) p) where
+      second-row : middle ≡ suc left
+      second-row = omega (arith, o .first .behind, constant-row n a e)
+
+      moved-words : q ≡ placed p left (s .right) b
+      moved-words =
           move
           ∙ ap₂ (λ m k. movedDown m k p) second-row count
-          ∙ moved-placed p left (s .right) b room (subst (λ m. Stands p m (s .right) b) second-row (o .second .stands));
-      behind = omega (arith, o .second .behind, second-row);
-    }
-      where
-        second-row : middle ≡ suc left
-        second-row = omega (arith, o .first .behind, constant-row n a e)
+          ∙ moved-placed p left (s .right) b room (subst (λ m. Stands p m (s .right) b) second-row (o .second .stands))
+        where
+          count : end - middle ≡ rowCount b
+          count = omega (arith, o .second .behind)
 
-        count : end - middle ≡ rowCount b
-        count = omega (arith, o .second .behind)
+      moved-end : end - 1 ≡ left + rowCount b
+      moved-end = omega (arith, o .second .behind, second-row)
+
+      pub moves : Left p left b (end - 1) q
+      moves = record { under = s .right; words = moved-words; behind = moved-end }
+
+      pub moved-operand : Operand q left (end - 1) (s .right) b
+      moved-operand = placed-operand p room (o .second .formed) moved-words moved-end
 
     -- "Anything else stays a row of the plan."
     row-left : (k : ℕ) {f : Folded} → rowCount f ≡ rowCount a + rowCount b + 1
