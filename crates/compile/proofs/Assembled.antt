@@ -88,9 +88,6 @@ module _ (p : List ℕ) (long : planLength ≤ length p) (new : List ℕ) (count
   put-length : length (partPut treeStart planLength p new) ≡ length p
   put-length = ap length whole ∙ length-append (take treeStart p ++ new) (drop planLength p) ∙ omega (arith, before, length-drop planLength p)
 
-pub read-room : (p : List ℕ) → planLength ≤ length p → length (part treeStart planLength p) ≡ spannedTree
-read-room p long = length-part treeStart planLength p (omega arith) long
-
 length-spanned : (t : Tree) → nodes t ≤ mostNodes → length (spannedWords t) ≡ spannedTree
 length-spanned t few = simp (length-append, length-replicate) (omega (arith, spanned-length t))
 
