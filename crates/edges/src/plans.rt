@@ -4,19 +4,18 @@ use crate::eras;
 use edges_print as print;
 use edges_text::text;
 use edges_text::words;
-use plan::ELEMENT_COUNT;
-use plan::ELEMENTS_START;
 use plan::MOST_ROWS;
 use plan::PLAN_WORDS;
 use plan::ROW_WORDS;
+use plan::SPAN_START;
 ghost use Prim.Native.Nat.{_≤_};
 ghost use lib.ListN.{length};
 ghost use Rattle.plan.specs.Measures.{mostRows};
 
 // In row 0: the place behind its elements, and that of its end byte.
-const ELEMENTS_END: usize = 1 + ELEMENTS_START + ELEMENT_COUNT;
+const ELEMENTS_END: usize = 1 + SPAN_START;
 
-const END_BYTE: usize = ROW_WORDS;
+const END_BYTE: usize = ELEMENTS_END + 1;
 
 pub fn cost(plan: &[u64]) -> plan::CostAnswer {
     plan_costs::cost(plan)
