@@ -165,7 +165,7 @@ impl Random {
         match self.weighted(&[60, 20, 20]) {
             0 => product,
             1 => format!("({product})^{}", self.pick(EXPONENTS)),
-            _ => format!("{}-{product}", self.pick(&["0", "x", "7", "x^17"])),
+            _ => format!("{}{}{product}", self.pick(&["0", "x", "7", "x^17", "3^(x)", "5^(x^2)"]), self.pick(OPERATORS)),
         }
     }
 
