@@ -191,8 +191,8 @@ class Cases:
 
 # ---- the cases
 
-FORMAT = """The cases of the program `edges_reasons`, one to a line: plans, and why their rows are still there. tests/edges_reasons.py writes this file and
-the output that it must give, and says more of it. A line that begins with a semicolon is a comment.
+FORMAT = """The cases of the program `edges_reasons`, one to a line: plans, and why their rows are still there. tests/edges_reasons.py
+writes this file and the output that it must give, and says more of it. A line that begins with a semicolon is a comment.
 
 1,3,0,0,1,6,6 is the next row: its kind, a, b and elements. The words after them stay 0 but for the span, which is 0..1, and word 0 counts the row.
 ~1 in it is the number of the row before it. @40,7,8 puts 7 and 8 in the words from 40 on; -1 is the word 2^64 - 1. =x^3 compiles a formula, and
@@ -263,9 +263,9 @@ def pool_with(*rows):
 
 
 def pairs(cases):
-    cases.say("Plans from elsewhere, with rows that nothing refers to. Each operator over every two of: constants 0, 1, 7; a sum chain; sum chains that are",
-              "the constants 7, 0, 1; one of length 12 that is one of 8, and one of length 9; a product chain; product chains that are 7, 1, 0 and 0; one",
-              "that is shorter when it is trimmed; and a row.")
+    cases.say("Plans from elsewhere, with rows that nothing refers to. Each operator over every two of: constants 0, 1, 7; a sum chain; sum",
+              "chains that are 7, 0, 1; one of length 12 that is one of 8, and one of length 9; a product chain; product chains that are 7, 1, 0",
+              "and 0; one that is shorter when it is trimmed; and a row.")
     every = [(a, b) for a in range(len(POOL)) for b in range(len(POOL))]
     for kind in (3, 4, 5):
         for some in (every[:86], every[86:172], every[172:]):
@@ -275,7 +275,8 @@ def pairs(cases):
 
 
 def lengths(cases):
-    cases.say("Lengths that add to 16 and 17, of chains as they stand and of chains of 17 elements that are trimmed; and lengths times n on both sides of 16.")
+    cases.say("Lengths that add to 16 and 17, of chains as they stand and of chains of 17 elements that are trimmed; and lengths times n on both",
+              "sides of 16.")
     whole = " ".join(f"1,{k},0,{{{k + 1}:9,}}" for k in range(1, 17))
     padded = " ".join(f"1,16,0,{{{k + 1}:9,}}" for k in range(1, 17))
     products = [(k, total - k) for total in (16, 17) for k in range(1, 17) if 1 <= total - k <= 16]
