@@ -38,21 +38,22 @@ module _ (w : ℕ) (p : List ℕ) (r : ℕ) where
   is-explained =
       picked (Explaining w p r) (eqb (refusal p) 0)
       (λ t. let e = eqb-true (refusal p) 0 t in
-      picked (Explaining w p r) (ltb r (rowCount p)) (λ u. counted-explained e (ltb-true r (rowCount p) u)) (λ u. not-counted e (ltb-false r (rowCount p) u)))
+      picked (Explaining w p r) (ltb r (rowCount p)) (λ u. counted-explained e (ltb-true r (rowCount p) u))
+      (λ u. not-counted e (ltb-false r (rowCount p) u)))
       (λ t. refused (eqb-false (refusal p) 0 t))
 
   -- ---- no other does
+  abbrev answeredBy : Bool → Bool → ReasonAnswer
+  answeredBy good within = cond good (cond within (explaining p r (rowReason p r)) (refusing 0)) (refusing (refusal p))
+
   counted : refusal p ≡ 0 → r < rowCount p → explained p r ≡ explaining p r (rowReason p r)
   unfolding explained
-  counted e within =
-      ap₂ (λ t u. cond t (cond u (explaining p r (rowReason p r)) (refusing 0)) (refusing (refusal p))) (eq-eqb (refusal p) 0 e) (lt-ltb r (rowCount p) within)
+  counted e within = ap₂ answeredBy (eq-eqb (refusal p) 0 e) (lt-ltb r (rowCount p) within)
 
   pub explained-only : {a : ReasonAnswer} → Explaining w p r a → a ≡ explained p r
   unfolding explained rowReason
-  explained-only (refused other) =
-      sym (ap (λ t. cond t (cond (ltb r (rowCount p)) (explaining p r (rowReason p r)) (refusing 0)) (refusing (refusal p))) (ne-eqb (refusal p) 0 other))
-  explained-only (not-counted e past) =
-      sym (ap₂ (λ t u. cond t (cond u (explaining p r (rowReason p r)) (refusing 0)) (refusing (refusal p))) (eq-eqb (refusal p) 0 e) (le-ltb r (rowCount p) past))
+  explained-only (refused other) = sym (ap (λ t. answeredBy t (ltb r (rowCount p))) (ne-eqb (refusal p) 0 other))
+  explained-only (not-counted e past) = sym (ap₂ answeredBy (eq-eqb (refusal p) 0 e) (le-ltb r (rowCount p) past))
   explained-only (no-operator e within few) =
       sym (counted e within ∙ ap (λ t. explaining p r (cond t 0 (reasonOf (rowTree p r)))) (lt-ltb (kind (row p r)) 3 few))
   explained-only (operator e within least reason) =

@@ -20,11 +20,14 @@ use Rattle.fold.proofs.Origins.{kindOf}
 use Rattle.fold.proofs.KindTests.{sum-test}
 use Rattle.reason.specs.declared.Seen.{Seen}
 use Rattle.reason.specs.Reasons.{foldedAgain, PlusOrMinus, plus, less, added, times, isOperator}
-use Rattle.reason.specs.Reasons.{left-stays, right-stays, under-minus, under-power, of-chains, of-chain, on-the-right, on-the-left, of-both, of-raise}
-use Rattle.reason.specs.Reasons.{Named, operand-stays, lengths-add, length-times, against-product, two-products, exponent-neither, Reason, would-fold, stays}
+use Rattle.reason.specs.Reasons.{left-stays, right-stays, under-minus, under-power, of-chains, of-chain}
+use Rattle.reason.specs.Reasons.{on-the-right, on-the-left, of-both, of-raise}
+use Rattle.reason.specs.Reasons.{Named, operand-stays, lengths-add, length-times, against-product, two-products, exponent-neither}
+use Rattle.reason.specs.Reasons.{Reason, would-fold, stays}
 use Rattle.reason.proofs.Operands.{Chain, a-constant, a-sum, a-product, chain-operand, no-chain, left-none, right-none}
 use Rattle.reason.proofs.Operands.{seen, isWord, operates, word-seen, operator-seen}
-use Rattle.reason.proofs.Staying.{passed, no-row, sum-leaf, product-leaf, Unsummed, sum-facts, sum-stays, Unmultiplied, product-facts, product-stays, minus-stays, power-facts, power-stays}
+use Rattle.reason.proofs.Staying.{passed, no-row, sum-leaf, product-leaf, Unsummed, sum-facts, sum-stays}
+use Rattle.reason.proofs.Staying.{Unmultiplied, product-facts, product-stays, minus-stays, power-facts, power-stays}
 
 -- ---- the number, operator by operator
 -- One of two operands is the constant n; one is an operator.

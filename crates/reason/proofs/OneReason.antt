@@ -8,8 +8,10 @@ use Rattle.fold.specs.Folded.{isConstant, isSumChain, isProductChain}
 use Rattle.fold.specs.Folding.{isSum}
 use Rattle.fold.proofs.Tests.{either, shaped}
 use Rattle.reason.specs.Reasons.{Folds, PlusOrMinus, plus, less, OfTwo, added, times, isOperator}
-use Rattle.reason.specs.Reasons.{left-stays, right-stays, under-minus, under-power, of-chains, of-chain, on-the-right, on-the-left, of-both, of-raise}
-use Rattle.reason.specs.Reasons.{Named, operand-stays, lengths-add, length-times, against-product, two-products, exponent-neither, Reason, would-fold, stays}
+use Rattle.reason.specs.Reasons.{left-stays, right-stays, under-minus, under-power, of-chains, of-chain}
+use Rattle.reason.specs.Reasons.{on-the-right, on-the-left, of-both, of-raise}
+use Rattle.reason.specs.Reasons.{Named, operand-stays, lengths-add, length-times, against-product, two-products, exponent-neither}
+use Rattle.reason.specs.Reasons.{Reason, would-fold, stays}
 use Rattle.reason.proofs.Operands.{left-none, right-none}
 
 -- The one of the first six reasons that a row can have.
@@ -52,7 +54,8 @@ against-named (added (plus s a b)) p q products sums = sym (ap₂ (λ t u. cond 
 against-named (added (less s a b)) p q products sums = sym (ap₂ (λ t u. cond t 1 (cond u 5 4)) (ap₂ _||_ p q) products)
 against-named (times s a b) p q products sums = sym (ap₂ (λ t u. cond t 1 (cond u 2 4)) (ap₂ _||_ p q) sums)
 
-products-named : {t a b : Folded} → PlusOrMinus t a b → isOperator a ≡ false → isOperator b ≡ false → (isProductChain a && isProductChain b) ≡ true → 5 ≡ namedOf t
+products-named : {t a b : Folded} → PlusOrMinus t a b → isOperator a ≡ false → isOperator b ≡ false → (isProductChain a && isProductChain b) ≡ true
+    → 5 ≡ namedOf t
 unfolding namedOf
 products-named (plus s a b) p q products = sym (ap₂ (λ t u. cond t 1 (cond u 5 4)) (ap₂ _||_ p q) products)
 products-named (less s a b) p q products = sym (ap₂ (λ t u. cond t 1 (cond u 5 4)) (ap₂ _||_ p q) products)
