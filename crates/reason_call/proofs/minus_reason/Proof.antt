@@ -1,0 +1,21 @@
+use native.Mathlib.Omega.{arith}
+use borrow.Author.Tests.{lt-ltb, le-ltb}
+use Rattle.reason.proofs.Deciding.{minusNumber}
+use borrow.Author.Needs.{needs}
+use Rattle.reason_call.proofs.minus_reason.Statement.{statement}
+use Rattle.reason_call.proofs.minus_reason.Tie as tie
+use Rattle.reason_call.proofs.minus_reason.Reads as reads
+use Rattle.reason_call.proofs.minus_reason.Lts as lts
+
+-- src/lib.rt:117:9
+returns : tie.Need-returns
+unfolding minusNumber
+returns c = rw (lt-ltb 2 ((c .before .before .args .operand) .kind) (c .if1 .taken))
+
+-- src/lib.rt:113:1
+returns-2 : tie.Need-returns-2
+unfolding minusNumber
+returns-2 c = rw (le-ltb 2 ((c .before .before .args .operand) .kind) (omega arith))
+
+pub minus-reason-spec : {M : Type 1} → statement M
+minus-reason-spec = tie.close (tie.spec returns returns-2)

@@ -1,0 +1,21 @@
+use native.Mathlib.Omega.{arith}
+use borrow.Author.Tests.{lt-ltb, le-ltb}
+use Rattle.reason.proofs.Deciding.{raiseNumber}
+use borrow.Author.Needs.{needs}
+use Rattle.reason_call.proofs.raise_reason.Statement.{statement}
+use Rattle.reason_call.proofs.raise_reason.Tie as tie
+use Rattle.reason_call.proofs.raise_reason.Reads as reads
+use Rattle.reason_call.proofs.raise_reason.Lts as lts
+
+-- src/lib.rt:145:9
+returns : tie.Need-returns
+unfolding raiseNumber
+returns c = rw (lt-ltb ((c .before .before .args .exponent) .kind) 2 (c .if1 .taken))
+
+-- src/lib.rt:141:1
+returns-2 : tie.Need-returns-2
+unfolding raiseNumber
+returns-2 c = rw (le-ltb ((c .before .before .args .exponent) .kind) 2 (omega arith))
+
+pub raise-reason-spec : {M : Type 1} → statement M
+raise-reason-spec = tie.close (tie.spec returns returns-2)
