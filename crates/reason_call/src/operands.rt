@@ -1,5 +1,5 @@
 // What the folding rules see of an operand's row: its kind, the length of its chain, trimmed where it stands, and its first element.
-// What they make of it is in the crate's root.
+// What they make of it is in `reason_numbers`.
 use plan::ELEMENTS_START;
 use plan_rows::kinds::CONSTANT;
 use plan_rows::kinds::PRODUCT_CHAIN;
@@ -13,8 +13,6 @@ ghost use Rattle.plan.specs.Measures.{elementCount, rowLength};
 ghost use Rattle.plan.specs.Row.{kind, wordA, isChain};
 ghost use Rattle.plan.specs.Points.{chainOf};
 ghost use Rattle.chain.specs.Chain.{trimmed};
-ghost use Rattle.reason.proofs.Operands.{isWord};
-ghost use Rattle.reason.proofs.Deciding.{hasWord, hasOperator};
 ghost use Rattle.reason.proofs.TreeLaws.{chainSeen, seenIn};
 
 // The length of the chain in a row, trailing units dropped.
@@ -79,34 +77,4 @@ pub fn seen(row: &[u64]) -> Seen
         return chain(kind, 0, 0);
     }
     chain(kind, trimmed_length(row, 1), first)
-}
-
-// The constant n.
-fn is_word(operand: Seen, n: u64) -> bool
-    ensures { λ s. ⌜ s ≡ isWord n operand ⌝ }
-{
-    if operand.kind != CONSTANT {
-        return false;
-    }
-    operand.first == n
-}
-
-// One of two operands is the constant n.
-pub fn has_word(left: Seen, right: Seen, n: u64) -> bool
-    ensures { λ s. ⌜ s ≡ hasWord n left right ⌝ }
-{
-    if is_word(left, n) {
-        return true;
-    }
-    is_word(right, n)
-}
-
-// One of them is itself of kinds 3 to 8.
-pub fn has_operator(left: Seen, right: Seen) -> bool
-    ensures { λ s. ⌜ s ≡ hasOperator left right ⌝ }
-{
-    if PRODUCT_CHAIN < left.kind {
-        return true;
-    }
-    PRODUCT_CHAIN < right.kind
 }

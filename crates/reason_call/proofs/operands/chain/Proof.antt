@@ -1,17 +1,13 @@
+-- `chain` answers a constant for length 0.
+use mathlib.Core.Path.{refl}
 use native.Mathlib.Omega.{arith}
 use borrow.Author.Tests.{eq-eqb, ne-eqb}
-use mathlib.Core.Path.{refl}
-use borrow.Author.Needs.{needs}
 use Rattle.reason_call.proofs.operands.chain.Statement.{statement}
 use Rattle.reason_call.proofs.operands.chain.Tie as tie
-use Rattle.reason_call.proofs.operands.chain.Reads as reads
-use Rattle.reason_call.proofs.operands.chain.Lts as lts
 
--- src/operands.rt:43:9
 returns : tie.Need-returns
 returns c = rw (eq-eqb (c .before .args .length) 0 (c .if1 .taken)) (refl, omega arith)
 
--- src/operands.rt:38:1
 returns-2 : tie.Need-returns-2
 returns-2 c = rw (ne-eqb (c .before .args .length) 0 (c .if1 .left)) (refl, omega arith)
 

@@ -1,24 +1,18 @@
+-- `has_word` asks the left operand, then the right one.
 use mathlib.Core.Path.{sym, _∙_}
 use borrow.Author.Needs.{needs}
-use Rattle.reason_call.proofs.operands.has_word.Statement.{statement}
-use Rattle.reason_call.proofs.operands.has_word.Tie as tie
-use Rattle.reason_call.proofs.operands.has_word.Reads as reads
-use Rattle.reason_call.proofs.operands.has_word.Lts as lts
-use Rattle.reason_call.proofs.operands.is_word.Reads as is-word-reads
+use Rattle.reason_numbers.proofs.has_word.Statement.{statement}
+use Rattle.reason_numbers.proofs.has_word.Tie as tie
 
--- src/operands.rt:98:8
 is-word-requires : tie.Need-is-word-requires
 is-word-requires c κs = search needs
 
--- src/operands.rt:99:9
 returns : tie.Need-returns
 returns c = rw (sym (c .before .is-word .ensures) ∙ (c .if1 .taken))
 
--- src/operands.rt:101:5
 is-word-requires-2 : tie.Need-is-word-requires-2
 is-word-requires-2 c κs = search needs
 
--- src/operands.rt:95:1
 returns-2 : tie.Need-returns-2
 returns-2 c = rw (sym (c .before .before .is-word .ensures) ∙ (c .before .if1 .left)) (c .is-word2 .ensures)
 
