@@ -1,8 +1,8 @@
 #!/usr/bin/env python3
 """Prints the input of the program `edges_reasons`, and what the program must write for it:
 
-    python3 tests/edges_reasons.py stdin > tests/edges_reasons.stdin
-    python3 tests/edges_reasons.py stdout > tests/edges_reasons.stdout
+    python3 tests/edges_reasons.py stdin > crates/edges_reasons/stdin
+    python3 tests/edges_reasons.py stdout > crates/edges_reasons/stdout
 
 A line of the input is a case, unless it is empty or begins with a semicolon. A case makes a plan in 3,000 words, all 0 before, and asks why its
 rows are still there. It consists of tokens with a blank between them, in which {3:0,} stands for 0, three times; with repeats written out a case

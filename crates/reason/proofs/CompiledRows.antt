@@ -175,17 +175,18 @@ module _ (w start step : ℕ) (pos : 0 < w) {s : List ℕ} {t : Tree} (A : Accep
   read = tree-read plan w folded (accepted-formed w start step A pos) (fold-settled w start step t) settled 0 (spanOf t) stands
 
   -- Its root row stands for the whole folded tree, and 01 folds no row of it.
-  pub compiled-tree : rowTree plan (rowCount folded - 1) ≡ folded
+  pub compiled-tree :
+      let plan = planWords (spanOf t) (fold w start step t) ++ rest in
+      rowTree plan (Plan.rowCount plan - 1) ≡ fold w start step t
   compiled-tree = ap (λ k. rowTree plan (k - 1)) (sym (zero-add (rowCount folded))) ∙ read .root
 
-  pub compiled-stays : (r : ℕ) → r < Plan.rowCount plan → Stays w (rowTree plan r)
+  pub compiled-stays :
+      let plan = planWords (spanOf t) (fold w start step t) ++ rest in
+      (r : ℕ) → r < Plan.rowCount plan → Stays w (rowTree plan r)
   compiled-stays r within = read .rows r (omega arith) (omega arith)
 
-  -- So none has reason 7.
-  pub compiled-reason : (r : ℕ) → r < Plan.rowCount plan → Reason w (rowTree plan r) 7 → ⊥
-  compiled-reason r within reason = only-folding reason refl (compiled-stays r within)
-
-  pub compiled-explained : (r : ℕ) {a : ReasonAnswer} → Explaining w plan r a → (a .reason) ≡ 7 → ⊥
+  -- So the call never says that it would.
+  pub compiled-explained : (r : ℕ) {a : ReasonAnswer} → Explaining w (planWords (spanOf t) (fold w start step t) ++ rest) r a → a .reason ≡ 7 → ⊥
   compiled-explained r (refused other) e = omega (arith, e)
   compiled-explained r (not-counted good past) e = omega (arith, e)
   compiled-explained r (no-operator good within few) e = omega (arith, e)

@@ -7,7 +7,7 @@ use Rattle.fold.specs.Folded.{Folded, constant, sumChain, productChain, sumRow,
 use Rattle.fold.specs.Folded.{isConstant, isSumChain, isProductChain}
 use Rattle.fold.specs.Folding.{isSum}
 use Rattle.fold.proofs.Tests.{either, shaped}
-use Rattle.reason.specs.Reasons.{Folds, PlusOrMinus, plus, less, OfTwo, added, times, isOperator}
+use Rattle.reason.specs.Reasons.{Stays, Folds, PlusOrMinus, plus, less, OfTwo, added, times, isOperator}
 use Rattle.reason.specs.Reasons.{left-stays, right-stays, under-minus, under-power, of-chains, of-chain}
 use Rattle.reason.specs.Reasons.{on-the-right, on-the-left, of-both, of-raise}
 use Rattle.reason.specs.Reasons.{Named, operand-stays, lengths-add, length-times, against-product, two-products, exponent-neither}
@@ -101,3 +101,7 @@ reason-known (stays s x) = (named-most x .0, omega (arith, named-most x))
 pub only-folding : {w : ℕ} {t : Folded} {n : ℕ} → Reason w t n → n ≡ 7 → Folds w t
 only-folding (would-fold h) e = h
 only-folding (stays s x) e = absurd (omega (arith, named-most x))
+
+pub only-named : {w : ℕ} {t : Folded} {n : ℕ} → Reason w t n → (n ≡ 7 → ⊥) → Stays w t × Named t n
+only-named (would-fold h) other = absurd (other refl)
+only-named (stays s x) other = (s, x)

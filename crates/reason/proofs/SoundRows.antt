@@ -92,11 +92,31 @@ module _ (p : List ℕ) (long : planLength ≤ length p) (s : sound p ≡ true) 
           ∙ row-seen (wordB own) (omega (arith, right-earlier no-minus no-power))
 
       -- The row's own tree, by its kind.
+      abbrev over : ℕ → Folded → Folded → Folded
+      over k left right = operatorOver k (wordB own) (operandSpans p own) left right
+
       abbrev treeBy : ℕ → Folded
-      treeBy k = operatorOver k (wordB own) (operandSpans p own) leftTree rightTree
+      treeBy k = over k leftTree rightTree
 
       own-tree : rowTree p r ≡ treeBy (kind own)
       own-tree = operator-tree (operandSpans p own) leftTree rightTree own operator
+
+      -- Its operands are the trees of the rows that it names.
+      pub tree-over-rows : rowTree p r ≡ operatorOver (kind own) (wordB own) (operandSpans p own) (rowTree p (wordA own)) (rowTree p (wordB own))
+      unfolding operatorOver
+      tree-over-rows =
+          own-tree ∙ ap (λ t. over (kind own) t rightTree) (earlier-tree p r (wordA own) left-earlier)
+          ∙ right-named (rowTree p (wordA own)) (rowTree p (wordB own)) (λ no-minus no-power. earlier-tree p r (wordB own) (right-earlier no-minus no-power))
+        where
+          -- Minus and literal power have no right operand.
+          right-named : (left named : Folded) → ((kind own ≡ 6 → ⊥) → (kind own ≡ 7 → ⊥) → rightTree ≡ named) → over (kind own) left rightTree ≡ over (kind own) left named
+          right-named left named =
+              each-operator (λ k. ((k ≡ 6 → ⊥) → (k ≡ 7 → ⊥) → rightTree ≡ named) → over k left rightTree ≡ over k left named) (kind own) operator known
+              (λ same. ap (over 3 left) (same (λ e. omega (arith, e)) (λ e. omega (arith, e))))
+              (λ same. ap (over 4 left) (same (λ e. omega (arith, e)) (λ e. omega (arith, e))))
+              (λ same. ap (over 5 left) (same (λ e. omega (arith, e)) (λ e. omega (arith, e))))
+              (λ _. refl) (λ _. refl)
+              (λ same. ap (over 8 left) (same (λ e. omega (arith, e)) (λ e. omega (arith, e))))
 
       pub tree-operates : isOperator (rowTree p r) ≡ true
       unfolding operatorOver

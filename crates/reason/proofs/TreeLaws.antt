@@ -123,6 +123,12 @@ module _ (s : Spans) (left right : Folded) (x : Row) where
   unfolding treeOver
   constant-tree e = picked (λ t. isConstant t ≡ true) (eqb (kind x) 0) (λ _. refl) (λ other. absurd (true≢false (sym e ∙ other)))
 
+  -- "a product chain with first element 0 counts as a constant".
+  pub zero-tree : length x ≡ rowLength → kind x ≡ 2 → firstElement x ≡ 0 → treeOver s left right x ≡ constant 0
+  unfolding treeOver
+  zero-tree long product none =
+      rw product (ap (λ c. ofProduct (cond (eqb c 0) (0 ∷ []) (trimmed 1 (chainOf x)))) (first-in-chain 1 x long ∙ none))
+
   -- A row of kinds 3 to 8.
   module _ (least : 3 ≤ kind x) where
     pub operator-tree : treeOver s left right x ≡ operatorOver (kind x) (wordB x) s left right
