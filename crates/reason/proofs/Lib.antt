@@ -1,0 +1,7 @@
+-- Laws of the reasons, for the crates above.
+pub mod Operands
+pub mod Staying
+pub mod Deciding
+pub mod OneReason
+pub mod TreeLaws
+pub mod SoundRows
