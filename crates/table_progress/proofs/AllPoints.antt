@@ -19,7 +19,9 @@ use Rattle.plan.proofs.Accepting.{accepted, fill-accepted}
 use Rattle.table_fields.specs.Writing.{Wrote}
 use Rattle.table_fields.proofs.Joining.{wrote-same, joined}
 use Rattle.table.specs.Lines.{jobLine, pointLines}
-use Rattle.table_progress.specs.Printed.{planPrints}
+use Rattle.table.specs.declared.Tool.{Tool}
+use Rattle.table.specs.declared.Tool.the-variants.{Tables}
+use Rattle.table_progress.specs.Printed.{toolPrints, planPrints, tableLeft}
 
 -- ---- "The plan's cost is the sum over its rows", 128 a row at most
 no-cost : (p : List ℕ) → costOf (firstRows 0 p) ≡ 0
@@ -53,16 +55,22 @@ module _ (p table : List ℕ) (budget : ℕ) (e : refusal p ≡ 0) (few : length
       ∙ ap (λ l. pointValues 64 (length table) p ++ l) (drop-length table)
       ∙ append-nil (pointValues 64 (length table) p)
 
-  -- The line of the job and the lines of its points, as the code of a plan that is not refused leaves them.
-  pub plan-printed : (n : ℕ) {answer : CostAnswer} {out between out′ table′ plan′ : List ℕ} {at r : ℕ}
-      → answer ≡ costAnswer p → Wrote out 0 (jobLine n (rowCount p) (answer .cost)) at between
-      → table′ ≡ fill 64 p table budget .table → plan′ ≡ fill 64 p table budget .plan → Wrote between at (pointLines 0 table′) r out′
-      → Wrote out 0 (planPrints n (length table) p) r out′
-      × ((plan′ ≡ planAfter 64 (length table) p) × (table′ ≡ pointValues 64 (length table) p))
-  plan-printed n {answer} costs line fills leaves points = (
-    wrote-same (ap₂ (λ k values. jobLine n (rowCount p) k ++ pointLines 0 values) known (fills ∙ fills-all)) (joined (omega arith) line points),
-    (leaves ∙ ap (λ f. f .plan) fill-all, fills ∙ fills-all),
+  -- The lines of its points, as the code of a plan that is not refused leaves them.
+  pub points-printed : {out out′ table′ plan′ : List ℕ} {at r : ℕ} → table′ ≡ fill 64 p table budget .table → plan′ ≡ fill 64 p table budget .plan
+      → Wrote out at (pointLines 0 table′) r out′
+      → Wrote out at (pointLines 0 (pointValues 64 (length table) p)) r out′
+      × ((plan′ ≡ planAfter 64 (length table) p) × (table′ ≡ tableLeft Tables (length table) p table))
+  points-printed fills leaves points = (
+    wrote-same (ap (λ values. pointLines 0 values) (fills ∙ fills-all)) points,
+    (leaves ∙ ap (λ f. f .plan) fill-all, fills ∙ ap (λ f. f .table) fill-all),
   )
-    where
-      known : answer .cost ≡ cost p
-      known = ap (λ (a : CostAnswer). a .cost) costs ∙ ap (λ k. cond (eqb k 0) (cost p) 0) e
+
+-- The `job` line, and behind it what the tool prints.
+pub plan-printed : (tool : Tool) (n points : ℕ) (formula p : List ℕ) {answer : CostAnswer} {out between out′ : List ℕ} {at r : ℕ} → refusal p ≡ 0
+    → answer ≡ costAnswer p → Wrote out 0 (jobLine n (rowCount p) (answer .cost)) at between → Wrote between at (toolPrints tool points formula p) r out′
+    → Wrote out 0 (planPrints tool n points formula p) r out′
+plan-printed tool n points formula p {answer} e costs line behind =
+    wrote-same (ap (λ k. jobLine n (rowCount p) k ++ toolPrints tool points formula p) known) (joined (omega arith) line behind)
+  where
+    known : answer .cost ≡ cost p
+    known = ap (λ (a : CostAnswer). a .cost) costs ∙ ap (λ k. cond (eqb k 0) (cost p) 0) e

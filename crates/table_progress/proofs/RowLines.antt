@@ -1,0 +1,70 @@
+-- The lines of a plan's rows: what is computed of them is what table/specs/Run.antt says, and nothing else is;
+-- and one line is written behind the other. How long they are is in Lengths.antt.
+use mathlib.Core.Path.{_≡_, refl, sym, ap, ap₂, subst, _∙_}
+use mathlib.Core.Bool.{Bool, true, false, cond}
+use mathlib.Core.List.{List, [], _∷_, _++_, append-nil}
+use Prim.Native.Nat.{ℕ, zero, suc, _+_, _≤_, _<_}
+use native.Mathlib.Numerals.{add-one}
+use native.Mathlib.Omega.{arith}
+use lib.Dec.{ltb}
+use lib.ListN.{length}
+use borrow.Author.Tests.{ltb-true, ltb-false, lt-ltb, le-ltb}
+use Rattle.plan.specs.Row.{kind}
+use Rattle.plan.specs.Plan.{rowCount, row, refusal}
+use Rattle.plan.proofs.Accepting.{accepted}
+use Rattle.reason.specs.RowTrees.{rowTree}
+use Rattle.reason.specs.Reasons.{Reason}
+use Rattle.reason.proofs.Deciding.{reasonOf}
+use Rattle.reason.proofs.OneReason.{one-reason}
+use Rattle.reason.proofs.SoundRows.{row-has-reason}
+use Rattle.table_fields.specs.Writing.{Wrote}
+use Rattle.table_fields.proofs.Joining.{wrote-same, joined}
+use Rattle.table.specs.Lines.{rowLine}
+use Rattle.table.specs.Run.{RowsPrint, no-row, passed-over, explained}
+use Rattle.table_progress.specs.Printed.{rowPrints, rowsPrint}
+
+-- ---- one row
+module _ (formula p : List ℕ) (r : ℕ) where
+  pub nothing-printed : kind (row p r) < 3 → rowPrints formula p r ≡ []
+  nothing-printed few = rw (lt-ltb (kind (row p r)) 3 few)
+
+  -- Any number that is its reason is the one shown.
+  pub row-printed : {reason : ℕ} → 3 ≤ kind (row p r) → Reason 64 (rowTree p r) reason → Reason 64 (rowTree p r) (reasonOf (rowTree p r))
+      → rowPrints formula p r ≡ rowLine formula r (row p r) reason
+  row-printed some given shown =
+      ap (λ t. cond t [] (rowLine formula r (row p r) (reasonOf (rowTree p r)))) (le-ltb (kind (row p r)) 3 some)
+      ∙ ap (rowLine formula r (row p r)) (one-reason shown given)
+
+-- ---- the first r rows of a plan that no call refuses
+module _ (formula p : List ℕ) (good : refusal p ≡ 0) where
+  shown : (r : ℕ) → r < rowCount p → 3 ≤ kind (row p r) → Reason 64 (rowTree p r) (reasonOf (rowTree p r))
+  shown r h some = let (long, sound) = accepted p good in row-has-reason p long sound r h some 64
+
+  pub rows-said : (r : ℕ) → r ≤ rowCount p → RowsPrint formula p r (rowsPrint formula p r)
+  unfolding rowsPrint
+  rows-said zero h = no-row
+  rows-said (suc r) h = go (ltb (kind (row p r)) 3) refl (rows-said r (omega arith))
+    where
+      go : (t : Bool) → ltb (kind (row p r)) 3 ≡ t → RowsPrint formula p r (rowsPrint formula p r)
+          → RowsPrint formula p (suc r) (rowsPrint formula p r ++ cond t [] (rowLine formula r (row p r) (reasonOf (rowTree p r))))
+      go true e before =
+          subst (RowsPrint formula p (suc r)) (sym (append-nil (rowsPrint formula p r))) (passed-over before (ltb-true (kind (row p r)) 3 e))
+      go false e before =
+          let some = ltb-false (kind (row p r)) 3 e in
+          explained (rowsPrint formula p r) before some (shown r h some)
+
+  pub rows-only : {r : ℕ} {printed : List ℕ} → r ≤ rowCount p → RowsPrint formula p r printed → printed ≡ rowsPrint formula p r
+  unfolding rowsPrint
+  rows-only h no-row = refl
+  rows-only h (passed-over {r} before few) =
+      rows-only (omega arith) before
+      ∙ sym (ap (λ s. rowsPrint formula p r ++ s) (nothing-printed formula p r few) ∙ append-nil (rowsPrint formula p r))
+  rows-only h (explained {r} printed before some given) =
+      ap₂ _++_ (rows-only (omega arith) before) (sym (row-printed formula p r some given (shown r h some)))
+
+-- ---- what row r prints, behind what the rows before it print
+pub row-next : {l m n : List ℕ} {at reached next : ℕ} (formula p : List ℕ) (r : ℕ) → at ≤ length l
+    → Wrote l at (rowsPrint formula p r) reached m → Wrote m reached (rowPrints formula p r) next n
+    → Wrote l at (rowsPrint formula p (r + 1)) next n
+unfolding rowsPrint
+row-next formula p r room before line = wrote-same (ap (rowsPrint formula p) (sym (add-one r))) (joined room before line)
