@@ -93,7 +93,7 @@ text-at most [] e n = omega arith
 text-at most (text ∷ more) e zero = leb-true (length text) most (and-left (leb (length text) most) _ e)
 text-at most (text ∷ more) e (suc n) = text-at most more (and-right (leb (length text) most) _ e) n
 
-reason-short : (n : ℕ) → length (reasonText n) ≤ 50
+pub reason-short : (n : ℕ) → length (reasonText n) ≤ 50
 unfolding short-texts reasonText
 reason-short n = text-at 50 reasonTexts refl n
 
