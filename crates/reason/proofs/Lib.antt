@@ -5,3 +5,6 @@ pub mod Deciding
 pub mod OneReason
 pub mod TreeLaws
 pub mod SoundRows
+pub mod Answers
+pub mod Settled
+pub mod CompiledRows

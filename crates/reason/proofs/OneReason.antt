@@ -1,12 +1,13 @@
 -- A row has no two reasons: the last is judged first, and the others exclude each other by the operator and the kinds of its operands.
 use mathlib.Core.Path.{_≡_, refl, sym, ap, ap₂, subst, _∙_}
 use mathlib.Core.Bool.{true, false, cond, _&&_, _||_, or-true}
-use Prim.Native.Nat.{ℕ}
+use Prim.Native.Nat.{ℕ, _≤_}
+use native.Mathlib.Omega.{arith}
 use Rattle.fold.specs.Folded.{Folded, constant, sumChain, productChain, sumRow, differenceRow, productRow, minusRow, powerRow, raiseRow}
 use Rattle.fold.specs.Folded.{isConstant, isSumChain, isProductChain}
 use Rattle.fold.specs.Folding.{isSum}
 use Rattle.fold.proofs.Tests.{either, shaped}
-use Rattle.reason.specs.Reasons.{PlusOrMinus, plus, less, OfTwo, added, times, isOperator}
+use Rattle.reason.specs.Reasons.{Folds, PlusOrMinus, plus, less, OfTwo, added, times, isOperator}
 use Rattle.reason.specs.Reasons.{left-stays, right-stays, under-minus, under-power, of-chains, of-chain, on-the-right, on-the-left, of-both, of-raise}
 use Rattle.reason.specs.Reasons.{Named, operand-stays, lengths-add, length-times, against-product, two-products, exponent-neither, Reason, would-fold, stays}
 use Rattle.reason.proofs.Operands.{left-none, right-none}
@@ -80,3 +81,20 @@ one-reason (would-fold h) (would-fold k) = refl
 one-reason (would-fold h) (stays s x) = absurd (h s)
 one-reason (stays s x) (would-fold h) = absurd (h s)
 one-reason (stays s x) (stays r y) = named-is x ∙ sym (named-is y)
+
+-- The first six reasons have the numbers 1 to 6, and 7 is given exactly when 01 folds the row.
+named-most : {t : Folded} {n : ℕ} → Named t n → (1 ≤ n) × (n ≤ 6)
+named-most (operand-stays x) = (omega arith, omega arith)
+named-most (lengths-add x) = (omega arith, omega arith)
+named-most (length-times x) = (omega arith, omega arith)
+named-most (against-product x) = (omega arith, omega arith)
+named-most (two-products x) = (omega arith, omega arith)
+named-most (exponent-neither x) = (omega arith, omega arith)
+
+pub reason-known : {w : ℕ} {t : Folded} {n : ℕ} → Reason w t n → (1 ≤ n) × (n ≤ 7)
+reason-known (would-fold h) = (omega arith, omega arith)
+reason-known (stays s x) = (named-most x .0, omega (arith, named-most x))
+
+pub only-folding : {w : ℕ} {t : Folded} {n : ℕ} → Reason w t n → n ≡ 7 → Folds w t
+only-folding (would-fold h) e = h
+only-folding (stays s x) e = absurd (omega (arith, named-most x))
