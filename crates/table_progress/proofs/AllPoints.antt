@@ -1,5 +1,5 @@
 -- A plan that is not refused costs so little that a budget of all words pays for a whole table; what is printed by it.
-use mathlib.Core.Path.{_≡_, refl, ap, ap₂, _∙_}
+use mathlib.Core.Path.{_≡_, refl, sym, ap, subst, _∙_}
 use mathlib.Core.Bool.{true, cond}
 use mathlib.Core.List.{List, _++_, append-nil}
 use Prim.Native.Nat.{ℕ, zero, suc, _+_, _*_, _≤_}
@@ -12,7 +12,7 @@ use lib.Seq.{drop-length}
 use Rattle.plan.specs.Measures.{planLength}
 use Rattle.plan.specs.declared.CostAnswer.{CostAnswer}
 use Rattle.plan.specs.Plan.{rowCount, rowsFrom, firstRows, sound, costOf, cost, refusal}
-use Rattle.plan.specs.Filling.{pointCost, pointsFor, planAfter, pointValues, filled, fill, costAnswer}
+use Rattle.plan.specs.Filling.{pointCost, pointsFor, pointValues, filled, fill, costAnswer}
 use Rattle.plan.proofs.RowLaws.{cost-next}
 use Rattle.plan.proofs.SoundLaws.{sound-count, row-facts}
 use Rattle.plan.proofs.Accepting.{accepted, fill-accepted}
@@ -21,7 +21,7 @@ use Rattle.table_fields.proofs.Joining.{wrote-same, joined}
 use Rattle.table.specs.Lines.{jobLine, pointLines}
 use Rattle.table.specs.declared.Tool.{Tool}
 use Rattle.table.specs.declared.Tool.the-variants.{Tables}
-use Rattle.table_progress.specs.Printed.{toolPrints, planPrints, tableLeft}
+use Rattle.table_progress.specs.Printed.{toolPrints, planLeft, tableLeft, PlanPrinted}
 
 -- ---- "The plan's cost is the sum over its rows", 128 a row at most
 no-cost : (p : List ℕ) → costOf (firstRows 0 p) ≡ 0
@@ -59,18 +59,24 @@ module _ (p table : List ℕ) (budget : ℕ) (e : refusal p ≡ 0) (few : length
   pub points-printed : {out out′ table′ plan′ : List ℕ} {at r : ℕ} → table′ ≡ fill 64 p table budget .table → plan′ ≡ fill 64 p table budget .plan
       → Wrote out at (pointLines 0 table′) r out′
       → Wrote out at (pointLines 0 (pointValues 64 (length table) p)) r out′
-      × ((plan′ ≡ planAfter 64 (length table) p) × (table′ ≡ tableLeft Tables (length table) p table))
+      × ((plan′ ≡ planLeft Tables (length table) p) × (table′ ≡ tableLeft Tables (length table) p table))
   points-printed fills leaves points = (
     wrote-same (ap (λ values. pointLines 0 values) (fills ∙ fills-all)) points,
     (leaves ∙ ap (λ f. f .plan) fill-all, fills ∙ ap (λ f. f .table) fill-all),
   )
 
--- The `job` line, and behind it what the tool prints.
-pub plan-printed : (tool : Tool) (n points : ℕ) (formula p : List ℕ) {answer : CostAnswer} {out between out′ : List ℕ} {at r : ℕ} → refusal p ≡ 0
-    → answer ≡ costAnswer p → Wrote out 0 (jobLine n (rowCount p) (answer .cost)) at between → Wrote between at (toolPrints tool points formula p) r out′
-    → Wrote out 0 (planPrints tool n points formula p) r out′
-plan-printed tool n points formula p {answer} e costs line behind =
-    wrote-same (ap (λ k. jobLine n (rowCount p) k ++ toolPrints tool points formula p) known) (joined (omega arith) line behind)
-  where
-    known : answer .cost ≡ cost p
-    known = ap (λ (a : CostAnswer). a .cost) costs ∙ ap (λ k. cond (eqb k 0) (cost p) 0) e
+-- The `job` line of a plan that is not refused, and behind it what the tool prints.
+module _ {tool : Tool} (n : ℕ) (formula p table : List ℕ) (e : refusal p ≡ 0) {answer : CostAnswer} {out between : List ℕ} {at : ℕ} (costs : answer ≡ costAnswer p)
+    (line : Wrote out 0 (jobLine n (rowCount p) (answer .cost)) at between) {out′ p′ table′ : List ℕ} {r : ℕ} where
+  pub plan-printed : {by : Tool} → tool ≡ by → Wrote between at (toolPrints by (length table) formula p) r out′
+      → p′ ≡ planLeft by (length table) p → table′ ≡ tableLeft by (length table) p table → PlanPrinted tool n formula p table out r p′ table′ out′
+  plan-printed {by} told behind leaves fills =
+      subst (λ t. PlanPrinted t n formula p table out r p′ table′ out′) (sym told)
+      (record {
+        prints = wrote-same (ap (λ k. jobLine n (rowCount p) k ++ toolPrints by (length table) formula p) known) (joined (omega arith) line behind);
+        leaves = leaves;
+        fills = fills;
+      })
+    where
+      known : answer .cost ≡ cost p
+      known = ap (λ (a : CostAnswer). a .cost) costs ∙ ap (λ k. cond (eqb k 0) (cost p) 0) e

@@ -1,7 +1,7 @@
 -- What a job prints and leaves, as its judgement and its formula's verdict decide it.
 use mathlib.Core.Path.{_≡_, refl, sym, ap, ap₂, subst, _∙_}
 use mathlib.Core.Bool.{true, false, cond}
-use mathlib.Core.List.{List, _++_, append-nil}
+use mathlib.Core.List.{List, [], _++_, append-nil}
 use Prim.Native.Nat.{ℕ, _-_, _≤_}
 use native.Mathlib.Nat.{sub-zero}
 use native.Mathlib.Omega.{arith}
@@ -18,6 +18,7 @@ use Rattle.plan.specs.Plan.{rowCount, refusal}
 use Rattle.plan.specs.Filling.{pointValues}
 use Rattle.plan.proofs.RowLaws.{part, partPut}
 use Rattle.fold.specs.declared.CompileAnswer.{CompileAnswer}
+use Rattle.fold.proofs.Compiled.{compiled-within}
 use Rattle.fold.specs.Compiling.{Compiling, too-short, refused, accepted}
 use Rattle.table_fields.specs.Writing.{Wrote}
 use Rattle.table_fields.proofs.Joining.{wrote-same}
@@ -26,8 +27,8 @@ use Rattle.table.specs.Lines.{noLine, pointLines, directValues}
 use Rattle.table.specs.Run.{jobPlan, firstLine, ToolPrints, points-follow, rows-follow}
 use Rattle.table.specs.declared.Tool.{Tool}
 use Rattle.table.specs.declared.Tool.the-variants.{Tables, Reasons}
-use Rattle.table_progress.specs.Printed.{toolPrints, planPrints, verdictPrints, judgedPrints}
-use Rattle.table_progress.specs.Printed.{planLeft, tableLeft, verdictPlan, verdictTable, JobPrinted}
+use Rattle.table_progress.specs.Printed.{TextsWithin, toolPrints, planPrints, verdictPrints, judgedPrints}
+use Rattle.table_progress.specs.Printed.{planLeft, tableLeft, verdictPlan, verdictTable, PlanPrinted, JobPrinted}
 use Rattle.table_progress.proofs.DirectValues.{accepted-sound, accepted-values}
 use Rattle.table_progress.proofs.Holding.{put-front}
 use Rattle.table_progress.proofs.RowLines.{rows-said, rows-only}
@@ -127,19 +128,22 @@ module _ (tool : Tool) (n : ℕ) (job : JobLine) (formula plan table out : List 
         let (t, found, same) = formula-accepted long compiles none in
         subst (λ p. refusal p ≡ 0) (sym same) (accepted-sound (job .start) (job .step) found)
 
+    pub formula-texts : TextsWithin formula plan′
+    formula-texts =
+        let (t, found, same) = formula-accepted long compiles none in
+        subst (TextsWithin formula) (append-nil (jobPlan job t) ∙ sym same) (compiled-within 64 (job .start) (job .step) (omega arith) found [])
+
     -- The first words of the table are lent, one for each point.
     pub formula-printed : {r : ℕ} {left written out′ : List ℕ} → job .ok ≡ true → job .count ≤ length table
-        → Wrote out 0 (planPrints tool n (length (part 0 (job .count) table)) formula plan′) r out′
-        → left ≡ planLeft tool (length (part 0 (job .count) table)) plan′
-        → written ≡ tableLeft tool (length (part 0 (job .count) table)) plan′ (part 0 (job .count) table)
+        → PlanPrinted tool n formula plan′ (part 0 (job .count) table) out r left written out′
         → JobPrinted tool n job formula plan table out r left (partPut 0 (job .count) table written) out′
     unfolding verdictPrints verdictPlan verdictTable
-    formula-printed e room lines leaves writes =
+    formula-printed e room printed =
         let (t, found, same) = formula-accepted long compiles none in
         line-taken e (Verdict.accepted t) (accepted-verdict formula found)
-        (wrote-same (ap₂ (λ k p. planPrints tool n k formula p) whole same) lines)
-        (leaves ∙ ap₂ (λ k p. planLeft tool k p) whole same)
-        (ap₂ (λ s k. s ++ drop k table) (writes ∙ ap₂ (λ k p. tableLeft tool k p (part 0 (job .count) table)) whole same) (sub-zero (job .count))
+        (wrote-same (ap₂ (λ k p. planPrints tool n k formula p) whole same) (printed .prints))
+        (printed .leaves ∙ ap₂ (λ k p. planLeft tool k p) whole same)
+        (ap₂ (λ s k. s ++ drop k table) (printed .fills ∙ ap₂ (λ k p. tableLeft tool k p (part 0 (job .count) table)) whole same) (sub-zero (job .count))
         ∙ ap (λ k. tableLeft tool (job .count) (jobPlan job t) (take k table) ++ drop (job .count) table) (sub-zero (job .count))
         ∙ table-part tool (job .count) (job .count) (jobPlan job t) table (omega arith) room)
       where

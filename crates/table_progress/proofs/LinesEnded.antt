@@ -28,34 +28,35 @@ use Rattle.table_progress.proofs.Jobs.{table-part}
 use Rattle.table_progress.proofs.HeldBytes.{taken-short}
 
 -- ---- the header
-abbrev HeaderEnded : Tool → (l out : List ℕ) → Progress → ℕ → List ℕ → Type 0
-HeaderEnded tool l out p w out′ = (p ≡ progressBy Header 0 0 l) × Wrote out 0 (linePrints tool theHeader l) w out′
+abbrev HeaderEnded : (l out : List ℕ) → Progress → ℕ → List ℕ → Type 0
+HeaderEnded l out p w out′ = (p ≡ progressBy Header 0 0 l) × ((tool : Tool) → Wrote out 0 (linePrints tool theHeader l) w out′)
 
-module _ (tool : Tool) (l out : List ℕ) where
-  pub header-taken : isHeader l ≡ true → HeaderEnded tool l out (record { awaited = Defaults; number = 0; held = 0; kept = 0 }) 0 out
+module _ (l out : List ℕ) where
+  pub header-taken : isHeader l ≡ true → HeaderEnded l out (record { awaited = Defaults; number = 0; held = 0; kept = 0 }) 0 out
   unfolding linePrints
-  header-taken e = (rw e, wrote-same (rw e) (wrote-nothing out 0))
+  header-taken e = (rw e, λ tool. wrote-same (rw e) (wrote-nothing out 0))
 
   pub header-refused : {p : Progress} {w : ℕ} {out′ : List ℕ} → isHeader l ≡ false → p ≡ ended → Wrote out 0 (noLine 0 12 0) w out′
-      → HeaderEnded tool l out p w out′
+      → HeaderEnded l out p w out′
   unfolding linePrints
-  header-refused e ends w = (rw (e, ends), wrote-same (rw e) w)
+  header-refused e ends w = (rw (e, ends), λ tool. wrote-same (rw e) w)
 
 -- ---- the defaults line
-abbrev DefaultsEnded : Tool → (l defaults out : List ℕ) → Progress → ℕ → (defaults′ out′ : List ℕ) → Type 0
-DefaultsEnded tool l defaults out p w defaults′ out′ =
-    (p ≡ progressBy Defaults 0 0 l) × (Wrote out 0 (linePrints tool theDefaults l) w out′ × (defaults′ ≡ defaultsAfter theDefaults l defaults))
+abbrev DefaultsEnded : (l defaults out : List ℕ) → Progress → ℕ → (defaults′ out′ : List ℕ) → Type 0
+DefaultsEnded l defaults out p w defaults′ out′ =
+    (p ≡ progressBy Defaults 0 0 l)
+    × (((tool : Tool) → Wrote out 0 (linePrints tool theDefaults l) w out′) × (defaults′ ≡ defaultsAfter theDefaults l defaults))
 
-module _ (tool : Tool) (l defaults out : List ℕ) (r : DefaultsLine) (judged : r ≡ judgedDefaults l) where
+module _ (l defaults out : List ℕ) (r : DefaultsLine) (judged : r ≡ judgedDefaults l) where
   pub defaults-refused : {p : Progress} {w : ℕ} {out′ : List ℕ} → r .ok ≡ false → p ≡ ended → Wrote out 0 (noLine 0 11 (r .place)) w out′
-      → DefaultsEnded tool l defaults out p w defaults out′
+      → DefaultsEnded l defaults out p w defaults out′
   unfolding linePrints
-  defaults-refused bad ends w = (rw (← judged, bad, ends), (wrote-same (rw (← judged, bad)) w, rw (← judged, bad)))
+  defaults-refused bad ends w = (rw (← judged, bad, ends), (λ tool. wrote-same (rw (← judged, bad)) w, rw (← judged, bad)))
 
   pub defaults-taken : {defaults′ : List ℕ} → r .ok ≡ true → defaults′ ≡ over l defaults
-      → DefaultsEnded tool l defaults out (record { awaited = Job; number = 1; held = 0; kept = length l }) 0 defaults′ out
+      → DefaultsEnded l defaults out (record { awaited = Job; number = 1; held = 0; kept = length l }) 0 defaults′ out
   unfolding linePrints
-  defaults-taken good put = (rw (← judged, good), (wrote-same (rw (← judged, good)) (wrote-nothing out 0), rw (← judged, good, put)))
+  defaults-taken good put = (rw (← judged, good), (λ tool. wrote-same (rw (← judged, good)) (wrote-nothing out 0), rw (← judged, good, put)))
 
 -- A line that is taken fits the buffer that it is kept in.
 pub defaults-short : (l : List ℕ) {r : DefaultsLine} → r ≡ judgedDefaults l → r .ok ≡ true → length l ≤ 4096
@@ -113,14 +114,14 @@ module _ (tool : Tool) (p : Progress) (l defaults plan table out : List ℕ) whe
   abbrev pub LineEnded : Progress → ℕ → (defaults′ plan′ table′ out′ : List ℕ) → Type 0
   LineEnded p′ w defaults′ plan′ table′ out′ = EndedBy p′ w defaults′ plan′ table′ out′ (p .awaited)
 
-  pub ended-header : {p′ : Progress} {w : ℕ} {out′ : List ℕ} → p .awaited ≡ Header → HeaderEnded tool l out p′ w out′
+  pub ended-header : {p′ : Progress} {w : ℕ} {out′ : List ℕ} → p .awaited ≡ Header → HeaderEnded l out p′ w out′
       → LineEnded p′ w defaults plan table out′
-  ended-header {p′} {w} {out′} e so = subst (EndedBy p′ w defaults plan table out′) (sym e) (so .0, (so .1, (refl, (refl, refl))))
+  ended-header {p′} {w} {out′} e so = subst (EndedBy p′ w defaults plan table out′) (sym e) (so .0, (so .1 tool, (refl, (refl, refl))))
 
   pub ended-defaults : {p′ : Progress} {w : ℕ} {defaults′ out′ : List ℕ} → p .awaited ≡ Defaults
-      → DefaultsEnded tool l defaults out p′ w defaults′ out′ → LineEnded p′ w defaults′ plan table out′
+      → DefaultsEnded l defaults out p′ w defaults′ out′ → LineEnded p′ w defaults′ plan table out′
   ended-defaults {p′} {w} {defaults′} {out′} e so =
-      subst (EndedBy p′ w defaults′ plan table out′) (sym e) (so .0, (so .1 .0, (so .1 .1, (refl, refl))))
+      subst (EndedBy p′ w defaults′ plan table out′) (sym e) (so .0, (so .1 .0 tool, (so .1 .1, (refl, refl))))
 
   pub ended-job : {w : ℕ} {plan′ table′ out′ : List ℕ} → p .awaited ≡ Job
       → JobEnded tool (p .number) l (part 0 (p .kept) defaults) plan table out w plan′ table′ out′

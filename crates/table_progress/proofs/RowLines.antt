@@ -9,36 +9,64 @@ use native.Mathlib.Omega.{arith}
 use lib.Dec.{ltb}
 use lib.ListN.{length}
 use borrow.Author.Tests.{ltb-true, ltb-false, lt-ltb, le-ltb}
-use Rattle.plan.specs.Row.{kind}
+use Rattle.plan.specs.Row.{Row, kind}
 use Rattle.plan.specs.Plan.{rowCount, row, refusal}
 use Rattle.plan.proofs.Accepting.{accepted}
 use Rattle.reason.specs.RowTrees.{rowTree}
-use Rattle.reason.specs.Reasons.{Reason}
+use Rattle.fold.specs.Folded.{Folded}
+use Rattle.reason.specs.Reasons.{operand-stays, lengths-add, length-times, against-product, two-products, exponent-neither, Reason, would-fold, stays}
 use Rattle.reason.proofs.Deciding.{reasonOf}
 use Rattle.reason.proofs.OneReason.{one-reason}
 use Rattle.reason.proofs.SoundRows.{row-has-reason}
+use Rattle.reason.proofs.Answers.{rowReason}
 use Rattle.table_fields.specs.Writing.{Wrote}
-use Rattle.table_fields.proofs.Joining.{wrote-same, joined}
+use Rattle.table_fields.proofs.Joining.{wrote-nothing, wrote-same, joined}
 use Rattle.table.specs.Lines.{rowLine}
 use Rattle.table.specs.Run.{RowsPrint, no-row, passed-over, explained}
 use Rattle.table_progress.specs.Printed.{rowPrints, rowsPrint}
 
 -- ---- one row
 module _ (formula p : List ℕ) (r : ℕ) where
-  pub nothing-printed : kind (row p r) < 3 → rowPrints formula p r ≡ []
+  nothing-printed : kind (row p r) < 3 → rowPrints formula p r ≡ []
   nothing-printed few = rw (lt-ltb (kind (row p r)) 3 few)
 
   -- Any number that is its reason is the one shown.
-  pub row-printed : {reason : ℕ} → 3 ≤ kind (row p r) → Reason 64 (rowTree p r) reason → Reason 64 (rowTree p r) (reasonOf (rowTree p r))
+  row-printed : {reason : ℕ} → 3 ≤ kind (row p r) → Reason 64 (rowTree p r) reason → Reason 64 (rowTree p r) (reasonOf (rowTree p r))
       → rowPrints formula p r ≡ rowLine formula r (row p r) reason
   row-printed some given shown =
       ap (λ t. cond t [] (rowLine formula r (row p r) (reasonOf (rowTree p r)))) (le-ltb (kind (row p r)) 3 some)
       ∙ ap (rowLine formula r (row p r)) (one-reason shown given)
 
+-- ---- a reason's number is on the list
+known-reason : {w n : ℕ} {t : Folded} → Reason w t n → (1 ≤ n) × (n ≤ 7)
+known-reason (would-fold h) = (omega arith, omega arith)
+known-reason (stays h (operand-stays x)) = (omega arith, omega arith)
+known-reason (stays h (lengths-add x)) = (omega arith, omega arith)
+known-reason (stays h (length-times x)) = (omega arith, omega arith)
+known-reason (stays h (against-product x)) = (omega arith, omega arith)
+known-reason (stays h (two-products x)) = (omega arith, omega arith)
+known-reason (stays h (exponent-neither x)) = (omega arith, omega arith)
+
 -- ---- the first r rows of a plan that no call refuses
 module _ (formula p : List ℕ) (good : refusal p ≡ 0) where
   shown : (r : ℕ) → r < rowCount p → 3 ≤ kind (row p r) → Reason 64 (rowTree p r) (reasonOf (rowTree p r))
   shown r h some = let (long, sound) = accepted p good in row-has-reason p long sound r h some 64
+
+  -- The number that the code works out for row r, and the line that it writes.
+  module _ {x : Row} {n : ℕ} (r : ℕ) (h : r < rowCount p) (same : x ≡ row p r) (some : 3 ≤ kind x) (answered : n ≡ rowReason p r) where
+    operates : 3 ≤ kind (row p r)
+    operates = subst (λ y. 3 ≤ kind y) same some
+
+    is-shown : n ≡ reasonOf (rowTree p r)
+    unfolding rowReason
+    is-shown = answered ∙ ap (λ t. cond t 0 (reasonOf (rowTree p r))) (le-ltb (kind (row p r)) 3 operates)
+
+    pub reason-known : (1 ≤ n) × (n ≤ 7)
+    reason-known = subst (λ k. (1 ≤ k) × (k ≤ 7)) (sym is-shown) (known-reason (shown r h operates))
+
+    pub line-printed : {out out′ : List ℕ} {at next : ℕ} → Wrote out at (rowLine formula r x n) next out′ → Wrote out at (rowPrints formula p r) next out′
+    line-printed wrote =
+        wrote-same (ap₂ (λ y k. rowLine formula r y k) same is-shown ∙ sym (row-printed formula p r operates (shown r h operates) (shown r h operates))) wrote
 
   pub rows-said : (r : ℕ) → r ≤ rowCount p → RowsPrint formula p r (rowsPrint formula p r)
   unfolding rowsPrint
@@ -62,7 +90,13 @@ module _ (formula p : List ℕ) (good : refusal p ≡ 0) where
   rows-only h (explained {r} printed before some given) =
       ap₂ _++_ (rows-only (omega arith) before) (sym (row-printed formula p r some given (shown r h some)))
 
--- ---- what row r prints, behind what the rows before it print
+-- ---- as the code writes them
+-- A row of kinds 0 to 2.
+pub nothing-written : (formula p : List ℕ) (r : ℕ) {x : Row} → x ≡ row p r → kind x < 3 → (out : List ℕ) (at : ℕ) → Wrote out at (rowPrints formula p r) at out
+nothing-written formula p r same few out at =
+    wrote-same (sym (nothing-printed formula p r (subst (λ y. kind y < 3) same few))) (wrote-nothing out at)
+
+-- What row r prints, behind what the rows before it print
 pub row-next : {l m n : List ℕ} {at reached next : ℕ} (formula p : List ℕ) (r : ℕ) → at ≤ length l
     → Wrote l at (rowsPrint formula p r) reached m → Wrote m reached (rowPrints formula p r) next n
     → Wrote l at (rowsPrint formula p (r + 1)) next n

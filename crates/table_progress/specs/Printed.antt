@@ -2,11 +2,11 @@
 use mathlib.Core.Path.{_≡_}
 use mathlib.Core.Bool.{cond}
 use mathlib.Core.List.{List, [], _++_}
-use Prim.Native.Nat.{ℕ, zero, suc}
+use Prim.Native.Nat.{ℕ, zero, suc, _≤_, _<_}
 use lib.Dec.{ltb}
-use lib.ListN.{drop}
+use lib.ListN.{length, drop}
 use Rattle.formula_scan.specs.Verdict.{Verdict, refused, accepted, verdict}
-use Rattle.plan.specs.Row.{kind}
+use Rattle.plan.specs.Row.{kind, endByte}
 use Rattle.plan.specs.Plan.{rowCount, row, cost}
 use Rattle.plan.specs.Filling.{planAfter, pointValues}
 use Rattle.reason.specs.RowTrees.{rowTree}
@@ -21,6 +21,10 @@ use Rattle.table.specs.declared.JobLine.{JobLine}
 use Rattle.table.specs.Run.{jobPlan}
 
 -- ---- what a tool prints behind the `job` line
+-- The text of each row that word 0 counts lies within the formula.
+abbrev pub TextsWithin : (formula p : List ℕ) → Type 0
+TextsWithin formula p = (r : ℕ) → r < rowCount p → endByte (row p r) ≤ length formula
+
 -- What row r of a formula's plan prints, and what the first r rows print: those of kinds 3 to 8.
 abbrev pub rowPrints : (formula p : List ℕ) → ℕ → List ℕ
 rowPrints formula p r = cond (ltb (kind (row p r)) 3) [] (rowLine formula r (row p r) (reasonOf (rowTree p r)))
@@ -69,6 +73,12 @@ verdictPlan tool job (accepted t) plan = planLeft tool (job .count) (jobPlan job
 unfoldable pub verdictTable : Tool → JobLine → Verdict → List ℕ → List ℕ
 verdictTable tool job (refused number place) table = table
 verdictTable tool job (accepted t) table = tableLeft tool (job .count) (jobPlan job t) table
+
+-- A plan printed into a lent buffer, with a table for its points: the place behind what it prints, and every word afterwards.
+pub record PlanPrinted (tool : Tool) (n : ℕ) (formula plan table out : List ℕ) (r : ℕ) (plan′ table′ out′ : List ℕ) : Type 0 where
+  pub prints : Wrote out 0 (planPrints tool n (length table) formula plan) r out′
+  pub leaves : plan′ ≡ planLeft tool (length table) plan
+  pub fills : table′ ≡ tableLeft tool (length table) plan table
 
 -- A job printed into a lent buffer by a plan of 2,817 words and a table: the place behind what it prints, and every word afterwards.
 pub record JobPrinted (tool : Tool) (n : ℕ) (job : JobLine) (formula plan table out : List ℕ) (r : ℕ) (plan′ table′ out′ : List ℕ) : Type 0 where
