@@ -142,7 +142,15 @@ pub fn end_line(
         Awaited::Defaults => end_defaults(line, defaults, out),
         Awaited::Job => {
             let kept = progress.kept;
-            let wrote = end_job(tool, progress.number, line, &defaults[0..kept], plan, table, out);
+            let wrote = end_job(
+                tool,
+                progress.number,
+                line,
+                &defaults[0..kept],
+                plan,
+                table,
+                out,
+            );
             let next = progress.number + 1;
             LineDone {
                 progress: Progress {
