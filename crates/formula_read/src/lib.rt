@@ -7,6 +7,7 @@ use formula::ReadAnswer;
 use formula::TREE_WORDS;
 use formula_nodes::faults;
 use formula_scan::PLACES;
+use formula_scan::SPANNED_WORDS;
 ghost use mathlib.Core.Path.{_≡_};
 ghost use mathlib.Core.Bool.{cond};
 ghost use Prim.Native.Nat.{_<_};
@@ -18,6 +19,9 @@ ghost use Rattle.formula.specs.Refusals.{Accepted, Reading};
 ghost use Rattle.formula_scan.specs.Readers.{faultPlaces, faultCode, noFault, spannedTree, spannedWords, overWords, ReadOver, Judged};
 
 const LONGEST_TEXT: usize = 1024;
+
+// The words that a tree with spans takes: the node count, then four words a node.
+pub const SPANNED_TREE_WORDS: usize = 1 + SPANNED_WORDS;
 
 // Refusal 7 for more nodes than a tree holds.
 fn nodes_fault(nodes: usize) -> u64
