@@ -9,9 +9,11 @@ use native.Mathlib.Omega.{arith}
 use lib.Dec.{ltb}
 use lib.ListN.{length}
 use borrow.Author.Tests.{ltb-true, ltb-false, lt-ltb, le-ltb}
-use Rattle.plan.specs.Row.{Row, kind}
+use Rattle.plan.specs.Measures.{longestText}
+use Rattle.plan.specs.Row.{Row, kind, firstByte, endByte}
 use Rattle.plan.specs.Plan.{rowCount, row, refusal}
 use Rattle.plan.proofs.Accepting.{accepted}
+use Rattle.plan.proofs.SpanLaws.{sound-span}
 use Rattle.reason.specs.RowTrees.{rowTree}
 use Rattle.fold.specs.Folded.{Folded}
 use Rattle.reason.specs.Reasons.{operand-stays, lengths-add, length-times, against-product, two-products, exponent-neither, Reason, would-fold, stays}
@@ -23,7 +25,7 @@ use Rattle.table_fields.specs.Writing.{Wrote}
 use Rattle.table_fields.proofs.Joining.{wrote-nothing, wrote-same, joined}
 use Rattle.table.specs.Lines.{rowLine}
 use Rattle.table.specs.Run.{RowsPrint, no-row, passed-over, explained}
-use Rattle.table_progress.specs.Printed.{rowPrints, rowsPrint}
+use Rattle.table_progress.specs.Printed.{TextsWithin, rowPrints, rowsPrint}
 
 -- ---- one row
 module _ (formula p : List ℕ) (r : ℕ) where
@@ -51,6 +53,13 @@ known-reason (stays h (exponent-neither x)) = (omega arith, omega arith)
 module _ (formula p : List ℕ) (good : refusal p ≡ 0) where
   shown : (r : ℕ) → r < rowCount p → 3 ≤ kind (row p r) → Reason 64 (rowTree p r) (reasonOf (rowTree p r))
   shown r h some = let (long, sound) = accepted p good in row-has-reason p long sound r h some 64
+
+  -- The part of the formula that row r spans.
+  pub row-text : TextsWithin formula p → (r : ℕ) → r < rowCount p → {x : Row} → x ≡ row p r
+      → (firstByte x ≤ endByte x) × (endByte x ≤ length formula) × (endByte x ≤ longestText)
+  row-text within r h same =
+      let (rises, short) = sound-span p r (accepted p good .1) h in
+      subst (λ y. (firstByte y ≤ endByte y) × (endByte y ≤ length formula) × (endByte y ≤ longestText)) (sym same) (omega (arith, rises), within r h, short)
 
   -- The number that the code works out for row r, and the line that it writes.
   module _ {x : Row} {n : ℕ} (r : ℕ) (h : r < rowCount p) (same : x ≡ row p r) (some : 3 ≤ kind x) (answered : n ≡ rowReason p r) where
