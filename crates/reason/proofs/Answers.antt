@@ -16,11 +16,7 @@ use Rattle.reason.specs.Reasons.{Reason}
 use Rattle.reason.specs.Explaining.{refusing, explaining, Explaining, refused, not-counted, no-operator, operator}
 use Rattle.reason.proofs.Deciding.{reasonOf}
 use Rattle.reason.proofs.OneReason.{one-reason}
-use Rattle.reason.proofs.SoundRows.{row-has-reason}
-
--- The number for a row that is counted: 0 for kinds 0 to 2.
-unfoldable pub rowReason : List ℕ → ℕ → ℕ
-rowReason p r = cond (ltb (kind (row p r)) 3) 0 (reasonOf (rowTree p r))
+use Rattle.reason.proofs.SoundRows.{rowReason, row-has-reason}
 
 unfoldable pub explained : List ℕ → ℕ → ReasonAnswer
 explained p r =

@@ -41,11 +41,12 @@ chainSumNumber a b = cond (ltb (a .kind) 2) (cond (ltb (b .kind) 2) 7 4) (cond (
 unfoldable pub sumNumber : Seen → Seen → ℕ
 sumNumber a b = cond (hasWord 0 a b) 7 (cond (hasOperator a b) 1 (chainSumNumber a b))
 
--- *, of constants and chains: two of one kind fold, unless they are sum chains that are too long; and so does a constant.
+-- *, of constants and chains: two of one kind fold, unless they are sum chains that are too long together; and so does a constant with any of them.
+abbrev pub alikeNumber : Seen → Seen → ℕ
+alikeNumber a b = cond (eqb (a .kind) 1) (cond (leb ((a .length) + (b .length)) 16) 7 2) 7
+
 unfoldable pub chainProductNumber : Seen → Seen → ℕ
-chainProductNumber a b =
-    cond (eqb (a .kind) (b .kind)) (cond (eqb (a .kind) 1) (cond (leb ((a .length) + (b .length)) 16) 7 2) 7)
-    (cond (eqb (a .kind) 0) 7 (cond (eqb (b .kind) 0) 7 4))
+chainProductNumber a b = cond (eqb (a .kind) (b .kind)) (alikeNumber a b) (cond (eqb (a .kind) 0) 7 (cond (eqb (b .kind) 0) 7 4))
 
 unfoldable pub productNumber : Seen → Seen → ℕ
 productNumber a b = cond (hasWord 1 a b) 7 (cond (hasWord 0 a b) 7 (cond (hasOperator a b) 1 (chainProductNumber a b)))

@@ -6,19 +6,36 @@ use Prim.Native.Nat.{ℕ, zero, suc, _≤_, _<_}
 use native.Mathlib.Omega.{arith}
 use lib.Dec.{eqb, ltb}
 use lib.ListN.{length, getD}
-use borrow.Author.Tests.{ltb-true, eqb-true, eq-eqb}
+use borrow.Author.Tests.{ltb-true, lt-ltb, le-ltb}
 use Rattle.plan.specs.Measures.{planLength, mostRows, rowLength}
 use Rattle.plan.specs.Row.{Row, kind, wordA, wordB, kindFacts, operandCount, keepsTable, soundA, soundB, oddConstant, soundBase, firstElement}
 use Rattle.plan.specs.Plan.{rowCount, row, firstRows, sound}
 use Rattle.plan.proofs.RowLaws.{length-row}
-use Rattle.plan.proofs.SoundLaws.{and-left, and-right, sound-count, sound-row, sound-keeps, kept-kind, kept-a, kept-b, kept-exponent, raise-sound}
+use Rattle.plan.proofs.SoundLaws.{and-left, and-right, sound-count, sound-row, sound-keeps, kept-kind, kept-a, kept-b, kept-b-small, kept-exponent, raise-sound}
 use Rattle.fold.specs.Folded.{Folded, constant, isConstant}
 use Rattle.reason.specs.declared.Seen.{Seen}
 use Rattle.reason.specs.RowTrees.{operandSpans, operatorOver, treeOver, trees, rowTree}
 use Rattle.reason.specs.Reasons.{isOperator, Reason}
 use Rattle.reason.proofs.Operands.{seen}
 use Rattle.reason.proofs.Deciding.{sumNumber, productNumber, minusNumber, powerNumber, raiseNumber, reasonOf, Kept, has-reason}
-use Rattle.reason.proofs.TreeLaws.{earlier-tree, each-operator, seenIn, constant-tree, operator-tree, seen-in-row}
+use Rattle.reason.proofs.TreeLaws.{earlier-tree, test, each-operator, seenIn, constant-tree, operator-tree, seen-in-row}
+
+-- The number for a row that is counted: 0 for kinds 0 to 2.
+unfoldable pub rowReason : List ℕ → ℕ → ℕ
+rowReason p r = cond (ltb (kind (row p r)) 3) 0 (reasonOf (rowTree p r))
+
+-- What the words x of row r say of its operands' rows and of its number.
+pub record RowExplained (p : List ℕ) (r : ℕ) (x : Row) : Type 0 where
+  pub none : kind x < 3 → rowReason p r ≡ 0
+  pub known : kind x < 9
+  pub left : 3 ≤ kind x → wordA x < rowCount p
+  pub right : 3 ≤ kind x → (kind x ≡ 6 → ⊥) → (kind x ≡ 7 → ⊥) → wordB x < rowCount p
+  pub exponent : wordB x < mostRows
+  pub sum : 3 ≤ kind x → kind x ≤ 4 → rowReason p r ≡ sumNumber (seenIn (row p (wordA x))) (seenIn (row p (wordB x)))
+  pub product : kind x ≡ 5 → rowReason p r ≡ productNumber (seenIn (row p (wordA x))) (seenIn (row p (wordB x)))
+  pub minus : kind x ≡ 6 → rowReason p r ≡ minusNumber (seenIn (row p (wordA x)))
+  pub power : kind x ≡ 7 → rowReason p r ≡ powerNumber (seenIn (row p (wordA x))) (wordB x)
+  pub raise : kind x ≡ 8 → rowReason p r ≡ raiseNumber (seenIn (row p (wordB x)))
 
 module _ (p : List ℕ) (long : planLength ≤ length p) (s : sound p ≡ true) where
   -- What is seen of a row's tree.
@@ -103,36 +120,58 @@ module _ (p : List ℕ) (long : planLength ≤ length p) (s : sound p ≡ true) 
       pub row-has-reason : (w : ℕ) → Reason w (rowTree p r) (reasonOf (rowTree p r))
       row-has-reason w = has-reason w (rowTree p r) tree-operates tree-kept
 
-      -- The number, operator by operator, by what is seen of the operands' rows.
-      number-by : (k : ℕ) → kind own ≡ k → reasonOf (rowTree p r) ≡ reasonOf (treeBy k)
-      number-by k e = ap reasonOf own-tree ∙ ap (λ k. reasonOf (treeBy k)) e
+      -- The number, by what is seen of the operands' rows.
+      number-by : (k : ℕ) → kind own ≡ k → rowReason p r ≡ reasonOf (treeBy k)
+      unfolding rowReason
+      number-by k e =
+          ap (λ t. cond t 0 (reasonOf (rowTree p r))) (le-ltb (kind own) 3 operator) ∙ ap reasonOf own-tree ∙ ap (λ k. reasonOf (treeBy k)) e
 
-      abbrev leftRow : Row
-      leftRow = row p (wordA own)
+      abbrev leftSeen : Seen
+      leftSeen = seenIn (row p (wordA own))
 
-      abbrev rightRow : Row
-      rightRow = row p (wordB own)
+      abbrev rightSeen : Seen
+      rightSeen = seenIn (row p (wordB own))
 
-      pub plus-number : kind own ≡ 3 → reasonOf (rowTree p r) ≡ sumNumber (seenIn leftRow) (seenIn rightRow)
+      sum-number : kind own ≤ 4 → rowReason p r ≡ sumNumber leftSeen rightSeen
       unfolding operatorOver reasonOf
-      plus-number e = number-by 3 e ∙ ap₂ sumNumber left-seen (right-seen (λ z. omega (arith, e)) (λ z. omega (arith, e)))
+      sum-number most =
+          test (kind own) 3 (λ e. number-by 3 e) (λ other. number-by 4 (fourth other))
+          ∙ ap₂ sumNumber left-seen (right-seen (λ e. omega arith) (λ e. omega arith))
+        where
+          fourth : (kind own ≡ 3 → ⊥) → kind own ≡ 4
+          fourth other = omega arith
 
-      pub less-number : kind own ≡ 4 → reasonOf (rowTree p r) ≡ sumNumber (seenIn leftRow) (seenIn rightRow)
+      product-number : kind own ≡ 5 → rowReason p r ≡ productNumber leftSeen rightSeen
       unfolding operatorOver reasonOf
-      less-number e = number-by 4 e ∙ ap₂ sumNumber left-seen (right-seen (λ z. omega (arith, e)) (λ z. omega (arith, e)))
+      product-number e = number-by 5 e ∙ ap₂ productNumber left-seen (right-seen (λ z. omega arith) (λ z. omega arith))
 
-      pub times-number : kind own ≡ 5 → reasonOf (rowTree p r) ≡ productNumber (seenIn leftRow) (seenIn rightRow)
-      unfolding operatorOver reasonOf
-      times-number e = number-by 5 e ∙ ap₂ productNumber left-seen (right-seen (λ z. omega (arith, e)) (λ z. omega (arith, e)))
-
-      pub minus-number : kind own ≡ 6 → reasonOf (rowTree p r) ≡ minusNumber (seenIn leftRow)
+      minus-number : kind own ≡ 6 → rowReason p r ≡ minusNumber leftSeen
       unfolding operatorOver reasonOf
       minus-number e = number-by 6 e ∙ ap minusNumber left-seen
 
-      pub power-number : kind own ≡ 7 → reasonOf (rowTree p r) ≡ powerNumber (seenIn leftRow) (wordB own)
+      power-number : kind own ≡ 7 → rowReason p r ≡ powerNumber leftSeen (wordB own)
       unfolding operatorOver reasonOf
       power-number e = number-by 7 e ∙ ap (λ a. powerNumber a (wordB own)) left-seen
 
-      pub raise-number : kind own ≡ 8 → reasonOf (rowTree p r) ≡ raiseNumber (seenIn rightRow)
+      raise-number : kind own ≡ 8 → rowReason p r ≡ raiseNumber rightSeen
       unfolding operatorOver reasonOf
-      raise-number e = number-by 8 e ∙ ap raiseNumber (right-seen (λ z. omega (arith, e)) (λ z. omega (arith, e)))
+      raise-number e = number-by 8 e ∙ ap raiseNumber (right-seen (λ z. omega arith) (λ z. omega arith))
+
+    -- ---- row r as a part x of the plan
+    none : kind own < 3 → rowReason p r ≡ 0
+    unfolding rowReason
+    none few = ap (λ t. cond t 0 (reasonOf (rowTree p r))) (lt-ltb (kind own) 3 few)
+
+    pub row-explained : {x : Row} → x ≡ own → RowExplained p r x
+    row-explained same = subst (RowExplained p r) (sym same) record {
+      none = none;
+      known = kept-kind r own kept;
+      left = λ operator. omega (arith, left-earlier operator);
+      right = λ operator no-minus no-power. omega (arith, right-earlier operator no-minus no-power);
+      exponent = kept-b-small r own kept (omega (arith, sound-count p s));
+      sum = sum-number;
+      product = λ e. product-number (omega arith) e;
+      minus = λ e. minus-number (omega arith) e;
+      power = λ e. power-number (omega arith) e;
+      raise = λ e. raise-number (omega arith) e;
+    }

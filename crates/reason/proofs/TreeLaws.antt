@@ -44,7 +44,7 @@ earlier-tree p (suc r) i h = go (ltb i r) refl (earlier-tree p r i)
         last = omega (arith, ltb-false i r e)
 
 -- ---- the kinds 3 to 8
-test : {R : Type 0} (k n : ℕ) → (k ≡ n → R) → ((k ≡ n → ⊥) → R) → R
+pub test : {R : Type 0} (k n : ℕ) → (k ≡ n → R) → ((k ≡ n → ⊥) → R) → R
 test {R} k n same other = go (eqb k n) refl
   where
     go : (t : Bool) → eqb k n ≡ t → R

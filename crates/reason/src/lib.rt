@@ -13,6 +13,6 @@ pub struct ReasonAnswer {
 // What the folding rules see of an operand: its kind, the length of its chain and its first element; length and element are 0 of an operator.
 pub struct Seen {
     pub kind: u64,
-    pub length: u64,
+    pub length: usize,
     pub first: u64,
 }
