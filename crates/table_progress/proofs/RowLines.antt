@@ -19,8 +19,7 @@ use Rattle.fold.specs.Folded.{Folded}
 use Rattle.reason.specs.Reasons.{operand-stays, lengths-add, length-times, against-product, two-products, exponent-neither, Reason, would-fold, stays}
 use Rattle.reason.proofs.Deciding.{reasonOf}
 use Rattle.reason.proofs.OneReason.{one-reason}
-use Rattle.reason.proofs.SoundRows.{row-has-reason}
-use Rattle.reason.proofs.Answers.{rowReason}
+use Rattle.reason.proofs.SoundRows.{row-has-reason, rowReason}
 use Rattle.table_fields.specs.Writing.{Wrote}
 use Rattle.table_fields.proofs.Joining.{wrote-nothing, wrote-same, joined}
 use Rattle.table.specs.Lines.{rowLine}
