@@ -42,7 +42,7 @@ fn operand(plan: &[u64], r: usize) -> Seen
 }
 
 // The reason of row r of a sound plan, 0 for a constant or a chain.
-fn row_reason(plan: &[u64], r: usize) -> u64
+pub fn row_reason(plan: &[u64], r: usize) -> u64
     requires { ⌜ planLength ≤ length (now plan) ⌝ }
     requires { ⌜ sound (now plan) ≡ true ⌝ }
     requires { ⌜ r < rowCount (now plan) ⌝ }
