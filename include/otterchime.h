@@ -18,7 +18,7 @@
  * The refusals, in the order in which a call looks for them:
  *
  *   number  when                                                     place
- *     1     plan shorter than 2,561 words                            0
+ *     1     plan shorter than 2,817 words                            0
  *     2     formula over 1,024 bytes                                 1024
  *     3     more than 32 round brackets open                         the first ( that does it
  *     4     not in the grammar                                       the first byte after which no grammar text can begin so;
@@ -46,8 +46,39 @@
 extern "C" {
 #endif
 
-/* The words of a plan: its number of rows, 1 to 128, and 20 words for each of 128 rows (kind, a, b, 17 elements). */
-#define OTTERCHIME_PLAN_WORDS 2561
+/* The words of a plan. Word 0 is the number of rows, 1 to 128. Row r has the 22 words from 1 + 22 * r on:
+ *
+ *   word    what
+ *     0     kind
+ *     1     a
+ *     2     b
+ *    3-19   17 elements: element 0 of a constant, f0..fk of a chain of length k, and 0 past them and in all other kinds
+ *    20     first byte of the formula's text that the row stands for, from 0
+ *    21     end byte of it: the one after its last
+ *
+ *   kind    row               a                    b              cost
+ *     0     constant          0                    0              0
+ *     1     sum chain         length 1..16         0              length
+ *     2     product chain     length 1..16         0              length
+ *   3 4 5   + - *             row                  row            1
+ *     6     minus             row                  0              1
+ *     7     literal power     row                  n, 2..64       n - 1
+ *     8     raise             odd constant row     row            128
+ *
+ * Rows stand in the order in which they are worked out, left operand first and root last. Brackets around a row's text are no part of it,
+ * those of its operands are: in (x+1)*2 the one row has bytes 0 to 7, in (x+1) bytes 1 to 4. A row that a formula passes on unchanged, as
+ * the A of 1*A, has the whole text.
+ *
+ * A plan is sound if word 0 is 1 to 128; each of the rows that it counts keeps the table, has only earlier rows as operands, 0 in its unused
+ * words, and a first byte below its end byte, which is at most 1,024; and all words of the other rows are 0. What compiling writes is sound,
+ * and filling leaves it so: it changes the elements of chains and nothing else. */
+#define OTTERCHIME_PLAN_WORDS 2817
+
+/* The words of a row, and where its elements and its first and end byte stand in it. */
+#define OTTERCHIME_ROW_WORDS 22
+#define OTTERCHIME_ROW_ELEMENTS 3
+#define OTTERCHIME_ROW_FIRST_BYTE 20
+#define OTTERCHIME_ROW_END_BYTE 21
 
 /* The words that hold a chain: a chain of length k has the k + 1 elements f0..fk, and k is at most 16. */
 #define OTTERCHIME_CHAIN_WORDS 17
@@ -73,8 +104,8 @@ extern "C" {
 /* ---- plans ---- */
 
 /* Compiles a formula's text on a grid, x = start + i * step at index i, into a plan.
- * text: text_length bytes, read only; no byte ends it. plan: plan_length words, at least 2,561 or the call is refused 1.
- * An accepted call writes the first 2,561 words of the plan and leaves the others as they were.
+ * text: text_length bytes, read only; no byte ends it. plan: plan_length words, at least 2,817 or the call is refused 1.
+ * An accepted call writes the first 2,817 words of the plan and leaves the others as they were.
  * answer: number, place. Refusals 1 to 8. */
 void otterchime_compile(const uint8_t *text, size_t text_length, uint64_t start, uint64_t step,
                         uint64_t *plan, size_t plan_length, uint64_t answer[OTTERCHIME_COMPILE_ANSWER]);
@@ -99,7 +130,7 @@ void otterchime_fill_eras(uint64_t *plan, size_t plan_length, uint64_t *table, s
  * answer: number, place, the cost (0 if refused). Refusals 1 and 9. */
 void otterchime_cost(const uint64_t *plan, size_t plan_length, uint64_t answer[OTTERCHIME_COST_ANSWER]);
 
-/* Whether a plan is sound, so that fill and cost accept it.
+/* Whether a plan is sound (see OTTERCHIME_PLAN_WORDS), so that fill and cost accept it.
  * answer: number, place. Refusals 1 and 9. */
 void otterchime_sound(const uint64_t *plan, size_t plan_length, uint64_t answer[OTTERCHIME_SOUND_ANSWER]);
 

@@ -14,8 +14,11 @@ line. Its value at a point is the root's, taken down the rows, where a chain has
 shifted step by step. After a filling, element j of a chain is the value that the chain from j on has at the number of
 points written. A plan's name is the line of the program's input, made from the rows. A formula is folded as a tree by
 document 01's rules: sum chains again value by value, product chains element by element. The values of a compiled plan
-are what the formula's nodes give at each x, whatever it folds to. A job file is taken as a whole: its lines, their
-fields, and what each line prints. Its notation has > for a tab and / for a line feed."""
+are what the formula's nodes give at each x, whatever it folds to. The span of a node is the part of the text that its
+rule of the grammar took, from the place where the rule began to the one where it ended; what a node folds to stands for
+all of it, and a row's operands for theirs. Where spans are printed, each row's own text is compiled by itself and must
+have that row as its root. A job file is taken as a whole: its lines, their fields, and what each line prints. Its
+notation has > for a tab and / for a line feed."""
 import re
 from functools import cache
 from itertools import groupby, product as product_of, zip_longest
@@ -226,16 +229,16 @@ def walk(name, function):
 # ---- reading a formula
 
 def joined(kind):
-    return lambda a, sign, b: a + b + [(kind, 0, sign[0])]
+    return lambda span, a, sign, b: a + b + [(kind, 0, sign[0], span)]
 
 
-def same(a):
+def same(span, a):
     return a
 
 
-# The grammar: a part's name, what the part consists of, and what it means. There a name stands for such a part, and any
-# other text for one of its bytes, which means its place and itself. A number means its place and its digits, the others
-# their nodes in postfix order: kind, word, and the place that a refusal gives.
+# The grammar: a part's name, what the part consists of, and what it means, given the part's span. There a name stands for
+# such a part, and any other text for one of its bytes, which means its place and itself. A number means its place and its
+# digits, the others their nodes in postfix order: kind, word, the place that a refusal gives, and the span.
 GRAMMAR = [
     ("sum", ["product"], same),
     ("sum", ["sum", "+", "product"], joined(3)),
@@ -243,17 +246,17 @@ GRAMMAR = [
     ("product", ["factor"], same),
     ("product", ["product", "*", "factor"], joined(5)),
     ("factor", ["power"], same),
-    ("factor", ["-", "factor"], lambda sign, a: a + [(6, 0, sign[0])]),
+    ("factor", ["-", "factor"], lambda span, sign, a: a + [(6, 0, sign[0], span)]),
     ("power", ["atom"], same),
-    ("power", ["atom", "^", "number"], lambda a, caret, n: a + [(7, int(n[1]), n[0])]),
-    ("power", ["atom", "^", "(", "sum", ")"], lambda a, caret, o, b, c: a + b + [(8, 0, caret[0])]),
-    ("atom", ["number"], lambda n: [(0, int(n[1]), n[0])]),
-    ("atom", ["x"], lambda x: [(1, 0, x[0])]),
-    ("atom", ["(", "sum", ")"], lambda o, a, c: a),
+    ("power", ["atom", "^", "number"], lambda span, a, caret, n: a + [(7, int(n[1]), n[0], span)]),
+    ("power", ["atom", "^", "(", "sum", ")"], lambda span, a, caret, o, b, c: a + b + [(8, 0, caret[0], span)]),
+    ("atom", ["number"], lambda span, n: [(0, int(n[1]), n[0], span)]),
+    ("atom", ["x"], lambda span, x: [(1, 0, x[0], span)]),
+    ("atom", ["(", "sum", ")"], lambda span, o, a, c: a),
     ("number", ["0"], same),
     ("number", ["digits"], same),
     ("digits", ["123456789"], same),
-    ("digits", ["digits", "0123456789"], lambda ds, d: (ds[0], ds[1] + d[1])),
+    ("digits", ["digits", "0123456789"], lambda span, ds, d: (ds[0], ds[1] + d[1])),
 ]
 PARTS = {name for name, _, _ in GRAMMAR}
 
@@ -277,7 +280,8 @@ def completed(items, place, columns):
         if dot < len(parts):
             more = beginning(parts[dot], place)
         else:
-            more = stepped(columns[origin], lambda part: part == name, meaning(*items[rule, dot, origin]))
+            whole = meaning((origin, place), *items[rule, dot, origin])
+            more = stepped(columns[origin], lambda part: part == name, whole)
             assert not more.keys() & items.keys(), "a text with two meanings"
         work += more.keys() - items.keys()
         items = {**more, **items}
@@ -294,7 +298,7 @@ def formula(text):
         columns.append(completed(items, place + 1, columns))
     for (rule, dot, origin), parts in columns[-1].items():
         if origin == 0 and GRAMMAR[rule][0] == "sum" and dot == len(GRAMMAR[rule][1]):
-            return len(text), GRAMMAR[rule][2](*parts)
+            return len(text), GRAMMAR[rule][2]((0, len(text)), *parts)
     return len(text), None
 
 
@@ -310,7 +314,7 @@ WORKED = {
 def bad_raises(nodes):
     """Refusal 8 at every raise over an even base or one that holds x. What holds x has no value."""
     stack = []
-    for kind, word, place in nodes:
+    for kind, word, place, _ in nodes:
         if kind in (0, 1):
             stack.append(word % WORD if kind == 0 else None)
             continue
@@ -332,7 +336,7 @@ def refusals(text):
     if nodes is None:
         yield 4, left
         return
-    for kind, word, place in nodes:
+    for kind, word, place, _ in nodes:
         if kind in (0, 7) and word >= WORD:
             yield 5, place
         if kind == 7 and word > 64:
@@ -353,7 +357,7 @@ def reading(name, text=None, answer=None, count=None, lent=None):
         return line(name, f"{number} {place} kept")
     nodes = formula(text)[1]
     assert count is None or len(nodes) == count, name
-    line(name, f"0 0 {len(nodes)}: {', '.join(f'{kind} {word}' for kind, word, _ in nodes)} clean kept")
+    line(name, f"0 0 {len(nodes)}: {', '.join(f'{kind} {word}' for kind, word, _, _ in nodes)} clean kept")
 
 
 def readings(texts):
@@ -363,9 +367,11 @@ def readings(texts):
 
 # ---- plans
 
-PLAN_WORDS = 2561
-ROW_WORDS = 20
+ROW_WORDS = 22
+SPAN = 20  # where a row's first byte stands in it, and then its end byte
 ROWS = 128
+PLAN_WORDS = 1 + ROWS * ROW_WORDS
+LONGEST_TEXT = 1024
 UNWRITTEN = 999  # stands in every word of a table before it is lent
 BUDGET = 999  # where a line of the program's input gives none
 
@@ -405,18 +411,24 @@ def rows_of(words):
 
 
 def keeps_table(rows, r):
-    kind, a, b, *elements_of_row = rows[r]
+    kind, a, b, *elements_of_row = rows[r][:SPAN]
     if kind >= len(KINDS):
         return False
     good_a, good_b, used, _ = KINDS[kind]
     return good_a(a, rows, r) and good_b(b, rows, r) and not any(elements_of_row[used(a):])
 
 
+def has_text(row):
+    """Request Five of document 02: the first byte is below the end byte, and the end at most 1,024."""
+    first, end = row[SPAN:]
+    return first < end <= LONGEST_TEXT
+
+
 def plan_refusal(words):
     if len(words) < PLAN_WORDS:
         return 1
     count, rows = words[0], rows_of(words)
-    sound = (1 <= count <= ROWS and all(keeps_table(rows, r) for r in range(count))
+    sound = (1 <= count <= ROWS and all(keeps_table(rows, r) and has_text(rows[r]) for r in range(count))
              and not any(any(row) for row in rows[count:]))
     return 0 if sound else 9
 
@@ -479,8 +491,14 @@ def checksum(words):
 
 
 def shown_row(row):
-    last = max((i for i, word in enumerate(row) if word), default=0)
+    last = max((i for i, word in enumerate(row[:SPAN]) if word), default=0)
     return ",".join(map(str, row[:last + 1]))
+
+
+def shown_spans(words):
+    """None of a plan that counts over 128 rows, as the words do that a refused formula leaves."""
+    counted_rows = rows_of(words)[:words[0]] if words[0] <= ROWS else []
+    return "spans" + "".join(" {}..{}".format(*row[SPAN:]) for row in counted_rows)
 
 
 def runs(parts, least):
@@ -498,9 +516,12 @@ def listed(words):
 PAIR_ROWS = [[0, 0, 0, 3], [1, 1, 0, 5, 2]]
 
 
+SPANS = 0, BUDGET, "s"  # stands among fillings, and has the plan's spans printed
+
+
 def fills_text(fills):
     """A filling is the table's length and the budget, and the letter e where eras are counted."""
-    return " ".join(f"{letter}{room}" if budget == BUDGET else f"{letter}{room},{budget}"
+    return " ".join("s" if letter == "s" else f"{letter}{room}" if budget == BUDGET else f"{letter}{room},{budget}"
                     for room, budget, letter in map(with_letter, fills))
 
 
@@ -524,13 +545,14 @@ def put_words(buffer, place, words, r=None):
 
 
 def plan(rows, *fills, put=(), lent=PLAN_WORDS, answer=None, cost=None, values=None, after=None):
-    """A plan of the rows, then words put at their places, lent in a buffer of 3,000 words. A filling is the table's
-    length and the budget. Where the refusal, the cost, the values written first or the first row afterwards are known
-    otherwise, they must agree."""
+    """A plan of the rows, each with the span 0..1, then words put at their places, lent in a buffer of 3,000 words. A
+    filling is the table's length and the budget. Where the refusal, the cost, the values written first or the first row
+    afterwards are known otherwise, they must agree."""
     fills = fills or [(2, BUDGET)]
     words = [0] * 3000
     words[0] = len(rows)
     for r, row in enumerate(rows):
+        put_words(words, 1 + ROW_WORDS * r + SPAN, [0, 1])
         put_words(words, 1 + ROW_WORDS * r, row, r)
     for place, planted in put:
         put_words(words, place, planted)
@@ -538,7 +560,9 @@ def plan(rows, *fills, put=(), lent=PLAN_WORDS, answer=None, cost=None, values=N
     table = [UNWRITTEN] * 4096
     parts = []
     for room, budget, letter in map(with_letter, fills):
-        if letter == "e":
+        if letter == "s":
+            parts.append(shown_spans(words))
+        elif letter == "e":
             parts.append(counted(words, lent, table, room, budget % WORD, name, answer))
         else:
             parts.append(filled(words, lent, table, room, budget % WORD, name, answer, cost))
@@ -605,6 +629,16 @@ def counted(words, lent, table, room, budget, name, answer=None):
 # A folded formula is its kind and what belongs to it: the elements of a constant or a chain, or the operands.
 ZERO = 0, [0]
 ONE = 0, [1]
+
+
+class Operand(tuple):
+    """A folded formula with the span of the text that it stands for, which does not count where two are compared."""
+
+
+def spanned(tree, span):
+    operand = Operand(tree)
+    operand.span = span
+    return operand
 
 
 def sum_chain(values_at):
@@ -681,15 +715,17 @@ FOLDS = {3: fold_sum, 4: fold_difference, 5: fold_product, 6: fold_minus, 8: fol
 
 
 def folded(nodes, start, step):
+    """What a node folds to has the node's span, also where a rule passes an operand through."""
     stack = []
-    for kind, word, _ in nodes:
+    for kind, word, _, span in nodes:
         if kind in (0, 1):
-            stack.append(sum_chain([start + i * step if kind else word for i in range(POINTS)]))
+            tree = sum_chain([start + i * step if kind else word for i in range(POINTS)])
         elif kind == 7:
-            stack.append(fold_power(stack.pop(), word))
+            tree = fold_power(stack.pop(), word)
         else:
             operands = [stack.pop() for _ in range(1 if kind == 6 else 2)][::-1]
-            stack.append(FOLDS[kind](*operands))
+            tree = FOLDS[kind](*operands)
+        stack.append(spanned(tree, span))
     return stack.pop()
 
 
@@ -697,16 +733,17 @@ def lay_out(tree, rows):
     """Adds the rows of a folded formula, and gives the root's number."""
     kind, *parts = tree
     if kind <= 2:
-        rows.append([kind, len(parts[0]) - 1, 0] + parts[0])
+        row = [kind, len(parts[0]) - 1, 0] + parts[0]
     else:
-        rows.append([kind] + [lay_out(part, rows) if isinstance(part, tuple) else part for part in parts])
+        row = [kind] + [lay_out(part, rows) if isinstance(part, tuple) else part for part in parts]
+    rows.append(row + [0] * (SPAN - len(row)) + list(tree.span))
     return len(rows) - 1
 
 
 def direct_value(nodes, x):
     """What the nodes give at x, operator by operator."""
     stack = []
-    for kind, word, _ in nodes:
+    for kind, word, _, _ in nodes:
         if kind in (0, 1):
             stack.append((x if kind else word) % WORD)
         elif kind == 7:
@@ -755,30 +792,62 @@ def compiling_text(name, grid, fills, lent):
     return f"{text}{name} {fills_text(fills)}".rstrip()
 
 
+def without_spans(words):
+    return [row[:SPAN] for row in rows_of(words)]
+
+
+def own_text(text, row, grid):
+    """The bytes of a row are a formula by themselves, and its root is the row: kind, literal exponent and elements."""
+    first, end = row[SPAN:]
+    cut = text[first:end]
+    assert not list(refusals(cut)), cut
+    alone = compiled_words(formula(cut)[1], grid)
+    root = rows_of(alone)[alone[0] - 1]
+    assert root[0] == row[0] and root[3:SPAN] == row[3:SPAN] and root[SPAN:] == [0, len(cut)], cut
+    assert row[0] != 7 or root[2] == row[2], cut
+
+
+def nested_texts(text, words, grid):
+    """Each row's text, and that those of its operands lie within it, left before right."""
+    rows = rows_of(words)[:words[0]]
+    for row in rows:
+        own_text(text, row, grid)
+        operands = [rows[word][SPAN:] for word in row[1:1 + (row[0] in (3, 4, 5, 8)) + (row[0] >= 3)]]
+        places = [row[SPAN]] + sum(operands, []) + [row[SPAN + 1]]
+        assert places == sorted(places), text
+    assert rows[-1][SPAN + 1] <= len(text)
+
+
 def compiling(name, *fills, grid=(0, 1), lent=PLAN_WORDS, answer=(0, 0), rows=None, count=None, cost=None, values=None,
-              after=None):
+              after=None, spans=None):
     """A formula compiled into the first words of 3,000, which hold other words before, and fillings. Its name is the
     text in the notation of the program's input. What is known otherwise must agree: the number and place, the rows or
-    how many they are, the cost, the values written first and the first row afterwards."""
+    how many they are, the cost, the values written first, the first row afterwards and the spans."""
     text = written_out(name)
     name = compiling_text(name, grid, fills, lent)
     number, place = (1, 0) if lent < PLAN_WORDS else min(refusals(text), default=(0, 0))
     assert answer == (number, place), name
     if number:
-        return line(f"plan {name}", f"compile {number} {place} kept")
+        kept = [UNWRITTEN + i for i in range(PLAN_WORDS)]
+        return line(f"plan {name}", "\t".join([f"compile {number} {place} kept"] + [shown_spans(kept) for _ in fills]))
     nodes = formula(text)[1]
     words = compiled_words(nodes, grid)
     total = plan_cost(words)
-    assert rows is None or words_of(rows) == words, name
+    assert rows is None or without_spans(words_of(rows)) == without_spans(words), name
     assert count is None or count == words[0], name
     assert cost is None or cost == total, name
+    assert spans is None or spans == [tuple(row[SPAN:]) for row in rows_of(words)[:words[0]]], name
+    if SPANS in fills:
+        nested_texts(text, words, grid)
     shown_rows = "".join(" " + shown_row(row) for row in rows_of(words)[:words[0]])
     parts = [f"compile 0 0 cost {plan_refusal(words)} 0 {total} plan {words[0]}:{shown_rows} clean kept"]
     words += [UNWRITTEN + i for i in range(PLAN_WORDS, 3000)]
     table = [UNWRITTEN] * 4096
     done = 0
     for room, budget, letter in map(with_letter, fills):
-        if letter == "e":
+        if letter == "s":
+            parts.append(shown_spans(words))
+        elif letter == "e":
             parts.append(counted(words, lent, table, room, budget % WORD, name))
         else:
             value_at = grid_values(nodes, grid, done)
@@ -1427,51 +1496,53 @@ MOST = -1
 
 def row_counts():
     plan([], answer=9)
-    for count, answer in ((1, 0), (128, 0), (129, 9), (256, 9), (257, 9), (2**32, 9), (2**32 + 1, 9), (HALF + 1, 9),
-                          (-1, 9)):
-        plan([], put=[(0, [count])], answer=answer)
+    for count in (1, 128):
+        plan([], put=[(0, [count])], answer=9)
+    for count in (129, 256, 257, 2**32, 2**32 + 1, HALF + 1, -1):
+        plan([SEVEN], put=[(0, [count])], answer=9)
     plan([SEVEN], answer=0)
     plan([SEVEN], put=[(0, [0])], answer=9)
-    plan([SEVEN], put=[(0, [2])], answer=0, values=[0, 0])
+    plan([SEVEN], put=[(0, [2])], answer=9)
+    plan([SEVEN], put=[(0, [2]), (44, [1])], answer=0, values=[0, 0])
     plan([SEVEN, [0, 0, 0, 8]], put=[(0, [1])], answer=9)
     plan([SEVEN] * 127, answer=0)
     plan([SEVEN] * 128, answer=0)
     plan([SEVEN] * 128, put=[(0, [127])], answer=9)
     plan([SEVEN] * 128, put=[(0, [129])], answer=9)
-    for place in (21, 22, 23, 24, 40, 41, 2540, 2541, 2560):
+    for place in (23, 24, 25, 26, 42, 43, 44, 45, 2794, 2795, 2816):
         plan([SEVEN], put=[(place, [1])], answer=9)
-    plan([SEVEN], put=[(2560, [-1])], answer=9)
-    for place in (2541, 2560):
+    plan([SEVEN], put=[(2816, [-1])], answer=9)
+    for place in (2795, 2816):
         plan([SEVEN] * 127, put=[(place, [1])], answer=9)
 
 
 def lent_plans():
-    rest = (2561, [9] * 439)
-    for lent in (0, 1, 21, 2560):
+    rest = (2817, [9] * 183)
+    for lent in (0, 1, 23, 2561, 2816):
         plan([SEVEN], lent=lent, answer=1)
-    plan([SEVEN], (0, BUDGET), lent=2560, answer=1)
-    plan([SEVEN], (2, 0), lent=2560, answer=1)
-    plan([], lent=2560, answer=1)
-    plan([NINE], lent=2560, answer=1)
+    plan([SEVEN], (0, BUDGET), lent=2816, answer=1)
+    plan([SEVEN], (2, 0), lent=2816, answer=1)
+    plan([], lent=2816, answer=1)
+    plan([NINE], lent=2816, answer=1)
     plan([SEVEN], (0, BUDGET), answer=0, values=[UNWRITTEN])
     plan([SEVEN], (2, 0), answer=0, values=[UNWRITTEN])
     plan([], (0, BUDGET), answer=9)
     plan([NINE], (0, BUDGET), answer=9)
     plan([NINE], (2, 0), answer=9)
     plan([NINE], (4096, MOST), answer=9)
-    plan([SEVEN], put=[(2561, [1])], lent=2562, answer=0)
+    plan([SEVEN], put=[(2817, [1])], lent=2818, answer=0)
     plan([SEVEN], lent=3000, answer=0)
     plan([SEVEN], put=[rest], lent=3000, answer=0)
     plan([CUBE], (10, 15), put=[rest], lent=3000, answer=0, cost=3, values=[0, 1, 8], after=[1, 3, 0, 27, 37, 24, 6])
     plan([SEVEN] * 127 + [[2, 16, 0] + [3] * 17], put=[rest], lent=3000, answer=0, cost=16)
-    plan([SEVEN], put=[(2560, [1]), rest], lent=3000, answer=9)
+    plan([SEVEN], put=[(2816, [1]), rest], lent=3000, answer=9)
     plan([NINE], (0, BUDGET), put=[rest], lent=3000, answer=9)
 
-    words = [1, 1, 1, 0, 5, 2] + [0] * 2994
+    words = [1, 1, 1, 0, 5, 2] + [0] * 16 + [1] + [0] * 2977
     table = [UNWRITTEN] * 4096
-    name = "#2560 1,1,0,5,2 t2 #2561 t2"
-    line(f"plan {name}", "\t".join([filled(words, 2560, table, 2, BUDGET, name, 1),
-                                   filled(words, 2561, table, 2, BUDGET, name, 0)]))
+    name = "#2816 1,1,0,5,2 t2 #2817 t2"
+    line(f"plan {name}", "\t".join([filled(words, 2816, table, 2, BUDGET, name, 1),
+                                   filled(words, 2817, table, 2, BUDGET, name, 0)]))
 
 
 def first_rows():
@@ -1897,14 +1968,14 @@ def folded_on_grids():
 
 def compiled_limits():
     """Both sides of the limits: words lent, bytes, brackets, nodes and rows."""
-    for lent in (0, 1, 21, 257, 2304, 2560):
+    for lent in (0, 1, 23, 257, 513, 2304, 2561, 2816):
         compiling("x^3", lent=lent, answer=(1, 0))
-    for lent in (2562, 2600, 3000):
+    for lent in (2818, 2900, 3000):
         compiling("x^3", (10, 15), lent=lent, rows=[CUBE])
     for text, answer in (("{1025:x}", (2, 1024)), ("{33:(}", (3, 32)), ("x^2^3", (4, 3)),
                          ("18446744073709551616", (5, 0)), ("x^65", (6, 2)), ("{129:-}x", (7, 0)), ("2^(x)", (8, 1))):
-        compiling(text, lent=2560, answer=(1, 0))
-        compiling(text, lent=2600, answer=answer)
+        compiling(text, lent=2816, answer=(1, 0))
+        compiling(text, lent=2900, answer=answer)
     compiling("{48:18446744073709551615+}1000000000000000", (2, BUDGET), rows=constant(10**15 - 48))
     compiling("{48:18446744073709551615+}x^17*3^(x)+12345", (3, BUDGET), count=8)
     compiling("{48:18446744073709551615+}x^17*3^(x)+123456", answer=(2, 1024))
@@ -2037,9 +2108,9 @@ def eras():
     plan(PAIR_ROWS + [[8, 0, 1], [1, 1, 0, -3, 2]], (4, BUDGET, "e"), (4, 130, "e"), (4, 129, "e"), answer=0)
     for root in ([2, 1, 0, 5, 3], [3, 0, 1], [4, 0, 1], [5, 0, 1], [6, 1], [7, 1, 2], [8, 0, 1]):
         plan(PAIR_ROWS + [root], (3, BUDGET, "e"), (0, 0, "e"), answer=16)
-        plan(PAIR_ROWS + [root], (3, BUDGET, "e"), put=[(40, [7])], answer=9)
-        plan(PAIR_ROWS + [root], (3, BUDGET, "e"), lent=2560, answer=1)
-    plan(PAIR_ROWS + [[1, 1, 0, -1, 1]], (3, BUDGET, "e"), lent=2560, answer=1)
+        plan(PAIR_ROWS + [root], (3, BUDGET, "e"), put=[(42, [7])], answer=9)
+        plan(PAIR_ROWS + [root], (3, BUDGET, "e"), lent=2816, answer=1)
+    plan(PAIR_ROWS + [[1, 1, 0, -1, 1]], (3, BUDGET, "e"), lent=2816, answer=1)
     plan(PAIR_ROWS + [[1, 0, 0, 5]], (3, BUDGET, "e"), answer=9)
     plan(PAIR_ROWS + [[9]], (3, BUDGET, "e"), answer=9)
 
@@ -2163,6 +2234,121 @@ def walks():
     walk("walk a mixed backward product", lambda i: backward_at(MIXED[:8], i) * backward_at(OTHER[:10], i))
 
 
+# ---- spans: request Five of document 02
+
+def span_list(text):
+    """0..8 for (0, 8), parted by blanks."""
+    return [tuple(map(int, span.split(".."))) for span in text.split()]
+
+
+def spans_told(text, told, **given):
+    compiling(text, SPANS, spans=span_list(told), **given)
+
+
+def spans_of_the_documents():
+    """Document 01's list of edges and its printer's example, with the refused ones among them."""
+    spans_told("x^3", "0..3")
+    spans_told("3*x+1", "0..5", grid=(5, 2))
+    spans_told("x*x-x^2+7", "0..9")
+    spans_told("x^2", "0..3", grid=(0, 2**32))
+    spans_told("x", "0..1", grid=(0, HALF))
+    spans_told("x^2+x", "0..5", grid=(0, HALF))
+    spans_told("-x^2", "0..4")
+    spans_told("3^(x)", "0..5")
+    spans_told("3^(3^(x))", "0..1 3..8 0..9")
+    spans_told("0^0", "0..3")
+    spans_told("2^3", "0..3")
+    compiling("2^(3)", SPANS, answer=(8, 1))
+    compiling("x^(2)", SPANS, answer=(8, 1))
+    spans_told("x^17", "0..1 0..4")
+    spans_told("x^16", "0..4")
+    spans_told("x^8*x^8", "0..7")
+    spans_told("x^8*x^9", "0..3 4..7 0..7")
+    for text, place in (("", 0), ("01", 1), ("1-", 2), ("x^2^3", 3)):
+        compiling(text, SPANS, answer=(4, place))
+    spans_told("18446744073709551615", "0..20")
+    compiling("18446744073709551616", SPANS, answer=(5, 0))
+    spans_told("x^64", "0..1 0..4")
+    compiling("x^65", SPANS, answer=(6, 2))
+    spans_told("x{63:+x}", "0..127")
+    compiling("x{64:+x}", SPANS, answer=(7, 0))
+    spans_told("x^2", "0..3")
+    spans_told("x+3^(x)", "0..1 2..7 0..7")
+    compiling("2^(x)", SPANS, answer=(8, 1))
+
+
+def bracketed_spans():
+    """Brackets around a row are outside, those of its operands inside."""
+    for text, told in (("(7)", "1..2"), ("(x+1)", "1..4"), ("((x+1))", "2..5"), ("(x+1)*2", "0..7"), ("2*(x+1)", "0..7"),
+                       ("((x)+(1))", "1..8"), ("(3)^((x))", "0..9"), ("(x)^17", "1..2 0..6"), ("((x))^17", "2..3 0..8"),
+                       ("((x^17))", "2..3 2..6"), ("-(x^17)", "2..3 2..6 0..7"), ("-(-(x^17))", "4..5 4..8 2..9 0..10"),
+                       ("--x^17", "2..3 2..6 1..6 0..6"), ("((x)+(3^(x)))", "2..3 6..11 1..12"),
+                       ("(x^17)-(3^(x))", "1..2 1..5 8..13 0..14"), ("(x^17-3^(x))", "1..2 1..5 6..11 1..11"),
+                       ("x*3^(x)*x", "0..1 2..7 0..7 8..9 0..9"), ("x*(3^(x)*x)", "0..1 3..8 9..10 3..10 0..11"),
+                       ("100+3^(2000*x)", "0..3 4..14 0..14"), ("(x+3^(x))^2", "1..2 3..8 1..8 0..11"),
+                       ("3^((3^(x)))", "0..1 4..9 0..11"), ("(2*3+1)^(x^17)", "1..6 9..10 9..13 0..14"),
+                       ("{32:(}x{32:)}", "32..33"), ("{32:(}x^17{32:)}", "32..33 32..36")):
+        spans_told(text, told)
+    compiling("{33:(}x{33:)}", SPANS, answer=(3, 32))
+    compiling("{1025:x}", SPANS, answer=(2, 1024))
+
+
+def passed_spans():
+    """An operand that a rule passes through takes the whole span; rows below it, and operands of a row, keep theirs."""
+    for text, told in (("x^17+0", "0..1 0..6"), ("0+x^17", "2..3 0..6"), ("x^17-0", "0..1 0..6"), ("1*x^17", "2..3 0..6"),
+                       ("x^17*1", "0..1 0..6"), ("(x^17)^1", "1..2 0..8"), ("1*(x^17)", "3..4 0..8"),
+                       ("0+(x*3^(x))", "3..4 5..10 0..11"), ("(3^(3^(x)))*1", "1..2 4..9 0..13"), ("0+2*3^(x)", "0..9"),
+                       ("(2*3^(x))^1", "0..11"), ("0-x^17", "2..3 2..6 0..6"), ("0-(x^17)", "3..4 3..7 0..8"),
+                       ("0-2*3^(x)", "0..9"), ("0*x^17", "0..6"), ("x^17*0", "0..6"), ("(x^17)^0", "0..8"),
+                       ("0-(0-(x^17))", "6..7 6..10 3..11 0..12"), ("0+(1*(0+x^17))", "8..9 0..14"),
+                       ("((x^17)^1)^1", "2..3 0..12"), ("(x-x)+(x+3^(x))", "7..8 9..14 0..15"),
+                       ("x^0*(x^17-0)", "5..6 0..12"), ("3^(0*x)*x^17", "8..9 0..12"), ("-(x^17*1)", "2..3 2..8 0..9"),
+                       ("x^17*(0+x^17)", "0..1 0..4 8..9 6..12 0..13"), ("5-(1*(x^17))", "0..1 6..7 3..11 0..12"),
+                       ("(0+x^17)^2", "3..4 1..7 0..10"), ("3^(0+3^(x))", "0..1 3..10 0..11"),
+                       ("-x^17+0*(x+3^(x))", "1..2 1..5 0..17"), ("x^17+0+x^17", "0..1 0..6 7..8 7..11 0..11")):
+        spans_told(text, told)
+
+
+def deep_spans():
+    """63 and 128 rows; the longest text, whose last row ends at 1,024; grids on which less or more is folded."""
+    for name in ("{32:3^(}x{32:)}", "{31:0-(}x^17{31:)}", "{126:-}x^17", "x^17{42:+x^17}", "{25:1*(x^17+}x^17{25:)}"):
+        compiling(name, SPANS)
+    compiling("{48:18446744073709551615+}x^17*3^(x)+12345", SPANS)
+    spans_told("x^17", "0..4", grid=(5, 0))
+    spans_told("x^8*x^9", "0..7", grid=(1, HALF))
+    spans_told("x^17+3^(x)", "0..1 0..4 5..10 0..10", grid=(1, 2**62))
+    spans_told("1*x+3^(3^(x))", "0..13", grid=(7, 2**62))
+    compiling("x^17-3^(x)", SPANS, (3, BUDGET), SPANS, (0, BUDGET), SPANS)
+    compiling("3*x^16", SPANS, (20, BUDGET), (3, MOST, "e"), SPANS)
+    compiling("5*3^(x^16)", SPANS, (20, BUDGET), SPANS)
+
+
+def sound_spans():
+    """Both sides of first < end and end <= 1,024, in the first, a middle and the last row and for each kind; nothing else
+    is asked of spans. Words of a span in rows that are not counted."""
+    for first, end, answer in (
+            (0, 0, 9), (0, 1, 0), (1, 0, 9), (1, 1, 9), (1, 2, 0), (2, 1, 9), (5, 5, 9), (5, 6, 0), (0, 1023, 0),
+            (0, 1024, 0), (0, 1025, 9), (1023, 1024, 0), (1024, 1024, 9), (1024, 1025, 9), (1025, 1024, 9),
+            (0, 2**32, 9), (0, 2**32 + 1, 9), (2**32, 1, 9), (2**32, 2**32 + 1, 9), (0, HALF + 1, 9), (HALF, 1, 9),
+            (0, -1, 9), (-1, 0, 9), (-1, 1, 9), (-2, -1, 9), (-1, -1, 9)):
+        plan([SEVEN], put=[(21, [first, end])], answer=answer)
+    kinds = [0, 0, 0, 4], [1, 1, 0, 4, 5], [2, 1, 0, 4, 5], [3, 0, 1], [4, 0, 1], [5, 0, 1], [6, 1], [7, 1, 2], [8, 0, 1]
+    for row in kinds:
+        for first, end, answer in ((3, 3, 9), (1023, 1024, 0), (1023, 1025, 9)):
+            plan(PAIR_ROWS + [row], put=[(65, [first, end])], answer=answer)
+    for place in (21, 43):
+        plan(PAIR_ROWS + [[3, 0, 1]], put=[(place, [1, 1])], answer=9)
+    plan(PAIR_ROWS + [[3, 0, 1]], SPANS, FOUR, SPANS, put=[(21, [9, 10]), (43, [2, 3]), (65, [500, 501])], answer=0)
+    for first, end, answer in ((1, 1, 9), (1023, 1024, 0), (0, 1025, 9)):
+        plan([SEVEN] * 128, put=[(2815, [first, end])], answer=answer)
+    for place, words in ((43, [0, 1]), (43, [1, 2]), (65, [0, 1]), (2815, [0, 1]), (2815, [1])):
+        plan([SEVEN], put=[(place, words)], answer=9)
+    for kind in (1, 2):
+        plan([[kind, 16, 0] + [3] * 17], SPANS, FOUR, SPANS, put=[(21, [1000, 1024])], answer=0)
+    plan([[1, 1, 0, -1, 1]], (2, BUDGET, "e"), put=[(21, [4, 4])], answer=9)
+    plan([[1, 1, 0, -1, 1]], (2, BUDGET, "e"), SPANS, put=[(21, [4, 9])], answer=0)
+
+
 if __name__ == "__main__":
     chains()
     sums()
@@ -2218,3 +2404,8 @@ if __name__ == "__main__":
     backward_products()
     backward_documents()
     walks()
+    spans_of_the_documents()
+    bracketed_spans()
+    passed_spans()
+    deep_spans()
+    sound_spans()

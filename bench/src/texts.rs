@@ -1,7 +1,7 @@
 //! The formulas that are compiled, and a plan of each.
 use crate::raw;
 
-pub const PLAN_WORDS: usize = 2561;
+pub const PLAN_WORDS: usize = 2817;
 
 /// Where the elements of a plan's first row begin.
 pub const FIRST_ELEMENTS: usize = 4;

@@ -27,6 +27,8 @@ mod raw;
 #[cfg(otterchime_linked)]
 mod readings;
 mod refusal;
+#[cfg(otterchime_linked)]
+mod rows;
 
 #[cfg(otterchime_linked)]
 pub use backward::{
@@ -39,9 +41,14 @@ pub use plans::{compile, cost, fill, fill_eras, sound, Filled, FilledEras, Plan}
 #[cfg(otterchime_linked)]
 pub use readings::{probe, Probed, Verdict};
 pub use refusal::Refusal;
+#[cfg(otterchime_linked)]
+pub use rows::{Row, RowKind};
 
-/// The words of a plan.
-pub const PLAN_WORDS: usize = 2561;
+/// The words of a plan, 2,817: the number of its rows, and the words of 128 rows.
+pub const PLAN_WORDS: usize = 1 + 128 * ROW_WORDS;
+
+/// The words of a row: kind, a, b, the elements, first byte and end byte of its text.
+pub const ROW_WORDS: usize = 3 + CHAIN_WORDS + 2;
 
 /// The words that hold a sum chain: f0 to f16.
 pub const CHAIN_WORDS: usize = 17;

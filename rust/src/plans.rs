@@ -1,5 +1,5 @@
 //! Compiling a formula, and filling a table by its plan: over lent words, and with a plan of one's own.
-use crate::{raw, Refusal, PLAN_WORDS};
+use crate::{raw, rows, Refusal, Row, PLAN_WORDS};
 
 /// What an accepted fill did.
 #[derive(Clone, Copy, Debug, PartialEq, Eq)]
@@ -16,7 +16,7 @@ pub struct FilledEras {
     pub sum: i64,
 }
 
-/// Compiles a formula on the grid x = start + i * step into the first 2,561 words of the plan.
+/// Compiles a formula on the grid x = start + i * step into the first 2,817 words of the plan.
 pub fn compile(text: &[u8], start: u64, step: u64, plan: &mut [u64]) -> Result<(), Refusal> {
     let mut answer = [0; 2];
     // SAFETY: each pointer is that of a live slice or array with its own count, and what is written overlaps nothing.
@@ -84,8 +84,9 @@ impl Plan {
         cost(&self.0).expect("a compiled plan is sound")
     }
 
-    pub fn rows(&self) -> usize {
-        self.0[0] as usize
+    /// The rows, left operand first and root last; `rows().len()` is how many there are.
+    pub fn rows(&self) -> impl ExactSizeIterator<Item = Row<'_>> {
+        rows::rows(&self.0)
     }
 
     pub fn words(&self) -> &[u64] {

@@ -76,7 +76,7 @@ impl Refusal {
 
     fn reason(self) -> &'static str {
         match self {
-            PlanTooShort => "the plan is shorter than 2561 words",
+            PlanTooShort => "the plan is shorter than 2817 words",
             FormulaTooLong => "the formula has over 1024 bytes",
             TooDeep { .. } => "more than 32 round brackets are open",
             NotInGrammar { .. } => "the formula is not in the grammar",

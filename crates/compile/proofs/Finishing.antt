@@ -7,27 +7,27 @@ use native.Mathlib.Omega.{arith}
 use lib.Dec.{eqb}
 use lib.ListN.{length}
 use Rattle.formula.specs.Tree as Tree
-use Rattle.formula.specs.Tree.{Tree, nodes}
-use Rattle.formula.specs.Words.{nodeWords}
+use Rattle.formula.specs.Tree.{span, Tree, nodes}
 use Rattle.formula.specs.Refusals.{Part, itself, sum-left, sum-right, difference-left, difference-right}
 use Rattle.formula.specs.Refusals.{product-left, product-right, under-minus, under-power, in-base, in-exponent}
+use Rattle.formula_scan.specs.Readers.{spanned, laidOut}
 use Rattle.compile.specs.Machine.{Finishes, finished, number, variable, sum, difference, product, minus, power, raise}
 
 -- ---- the words of a whole tree
 -- After the node words of u, the tree u is finished.
-pub finishes-tree : {t : Tree} {done : List Tree} {words : List ℕ} (u : Tree) → Finishes t (u ∷ done) words → Finishes t done (nodeWords u ++ words)
-unfolding nodeWords
-finishes-tree (Tree.number place v) h = number place v h
-finishes-tree Tree.variable h = variable h
-finishes-tree (Tree.sum a b) h = rw (append-assoc, append-assoc) (finishes-tree a (finishes-tree b (sum h)))
-finishes-tree (Tree.difference a b) h = rw (append-assoc, append-assoc) (finishes-tree a (finishes-tree b (difference h)))
-finishes-tree (Tree.product a b) h = rw (append-assoc, append-assoc) (finishes-tree a (finishes-tree b (product h)))
-finishes-tree (Tree.minus a) h = rw append-assoc (finishes-tree a (minus h))
-finishes-tree (Tree.literalPower a place n) h = rw append-assoc (finishes-tree a (power place n h))
-finishes-tree (Tree.raise a place b) h = rw (append-assoc, append-assoc) (finishes-tree a (finishes-tree b (raise place h)))
+pub finishes-tree : {t : Tree} {done : List Tree} {words : List ℕ} (u : Tree) → Finishes t (u ∷ done) words → Finishes t done (laidOut spanned u ++ words)
+unfolding laidOut
+finishes-tree (Tree.number (span first end) place v) h = number place v h
+finishes-tree (Tree.variable (span first end)) h = variable h
+finishes-tree (Tree.sum (span first end) a b) h = rw (append-assoc, append-assoc) (finishes-tree a (finishes-tree b (sum h)))
+finishes-tree (Tree.difference (span first end) a b) h = rw (append-assoc, append-assoc) (finishes-tree a (finishes-tree b (difference h)))
+finishes-tree (Tree.product (span first end) a b) h = rw (append-assoc, append-assoc) (finishes-tree a (finishes-tree b (product h)))
+finishes-tree (Tree.minus (span first end) a) h = rw append-assoc (finishes-tree a (minus h))
+finishes-tree (Tree.literalPower (span first end) a place n) h = rw append-assoc (finishes-tree a (power place n h))
+finishes-tree (Tree.raise (span first end) a place b) h = rw (append-assoc, append-assoc) (finishes-tree a (finishes-tree b (raise place h)))
 
-pub finishes-all : (t : Tree) → Finishes t [] (nodeWords t)
-finishes-all t = rw (sym (append-nil (nodeWords t))) (finishes-tree t finished)
+pub finishes-all : (t : Tree) → Finishes t [] (laidOut spanned t)
+finishes-all t = rw (sym (append-nil (laidOut spanned t))) (finishes-tree t finished)
 
 -- ---- finished trees are parts of the tree
 pub part-part : {u a t : Tree} → Part u a → Part a t → Part u t
@@ -67,24 +67,25 @@ top-part h = finishes-part h .0
 
 -- ---- the next node
 -- What a node of two operands does.
-abbrev TakesTwo : Tree → (Tree → Tree → Tree) → List Tree → List ℕ → Type 0
+abbrev pub TakesTwo : Tree → (Tree → Tree → Tree) → List Tree → List ℕ → Type 0
 TakesTwo t operator done words = (a : Tree) × (b : Tree) × (rest : List Tree) × (done ≡ b ∷ a ∷ rest) × Finishes t (operator a b ∷ rest) words
 
--- What the node of kind k with the word v does.
-unfoldable Turn : Tree → List Tree → List ℕ → ℕ → ℕ → Type 0
-Turn t done words v k =
-    cond (eqb k 0) ((place : ℕ) × Finishes t (Tree.number place v ∷ done) words)
-    (cond (eqb k 1) (Finishes t (Tree.variable ∷ done) words)
-    (cond (eqb k 3) (TakesTwo t Tree.sum done words)
-    (cond (eqb k 4) (TakesTwo t Tree.difference done words)
-    (cond (eqb k 5) (TakesTwo t Tree.product done words)
-    (cond (eqb k 6) ((a : Tree) × (rest : List Tree) × (done ≡ a ∷ rest) × Finishes t (Tree.minus a ∷ rest) words)
-    (cond (eqb k 7) ((place : ℕ) × (a : Tree) × (rest : List Tree) × (done ≡ a ∷ rest) × Finishes t (Tree.literalPower a place v ∷ rest) words)
+-- What the node of kind k with the word v and the span from `first` to `end` does.
+unfoldable Turn : Tree → List Tree → List ℕ → (v first end k : ℕ) → Type 0
+Turn t done words v first end k =
+    cond (eqb k 0) ((place : ℕ) × Finishes t (Tree.number (span first end) place v ∷ done) words)
+    (cond (eqb k 1) (Finishes t (Tree.variable (span first end) ∷ done) words)
+    (cond (eqb k 3) (TakesTwo t (Tree.sum (span first end)) done words)
+    (cond (eqb k 4) (TakesTwo t (Tree.difference (span first end)) done words)
+    (cond (eqb k 5) (TakesTwo t (Tree.product (span first end)) done words)
+    (cond (eqb k 6) ((a : Tree) × (rest : List Tree) × (done ≡ a ∷ rest) × Finishes t (Tree.minus (span first end) a ∷ rest) words)
+    (cond (eqb k 7)
+    ((place : ℕ) × (a : Tree) × (rest : List Tree) × (done ≡ a ∷ rest) × Finishes t (Tree.literalPower (span first end) a place v ∷ rest) words)
     (cond (eqb k 8)
-    ((place : ℕ) × (a : Tree) × (b : Tree) × (rest : List Tree) × (done ≡ b ∷ a ∷ rest) × Finishes t (Tree.raise a place b ∷ rest) words)
+    ((place : ℕ) × (a : Tree) × (b : Tree) × (rest : List Tree) × (done ≡ b ∷ a ∷ rest) × Finishes t (Tree.raise (span first end) a place b ∷ rest) words)
     ⊥)))))))
 
-turn : {t : Tree} {done : List Tree} {words : List ℕ} {k v : ℕ} → Finishes t done (k ∷ v ∷ words) → Turn t done words v k
+turn : {t : Tree} {done : List Tree} {words : List ℕ} {k v first end : ℕ} → Finishes t done (k ∷ v ∷ first ∷ end ∷ words) → Turn t done words v first end k
 unfolding Turn
 turn (number place v h) = (place, h)
 turn (variable h) = h
@@ -95,44 +96,42 @@ turn (minus h) = (_, _, refl, h)
 turn (power place n h) = (place, _, _, refl, h)
 turn (raise place h) = (place, _, _, _, refl, h)
 
-module _ {t : Tree} {done : List Tree} {words : List ℕ} {k v : ℕ} (h : Finishes t done (k ∷ v ∷ words)) where
-  pub view-number : k ≡ 0 → (place : ℕ) × Finishes t (Tree.number place v ∷ done) words
+module _ {t : Tree} {done : List Tree} {words : List ℕ} {k v first end : ℕ} (h : Finishes t done (k ∷ v ∷ first ∷ end ∷ words)) where
+  pub view-number : k ≡ 0 → (place : ℕ) × Finishes t (Tree.number (span first end) place v ∷ done) words
   unfolding Turn
-  view-number e = subst (Turn t done words v) e (turn h)
+  view-number e = subst (Turn t done words v first end) e (turn h)
 
-  pub view-variable : k ≡ 1 → Finishes t (Tree.variable ∷ done) words
+  pub view-variable : k ≡ 1 → Finishes t (Tree.variable (span first end) ∷ done) words
   unfolding Turn
-  view-variable e = subst (Turn t done words v) e (turn h)
+  view-variable e = subst (Turn t done words v first end) e (turn h)
 
-  pub view-sum : k ≡ 3 → (a : Tree) × (b : Tree) × (rest : List Tree) × (done ≡ b ∷ a ∷ rest) × Finishes t (Tree.sum a b ∷ rest) words
+  pub view-sum : k ≡ 3 → TakesTwo t (Tree.sum (span first end)) done words
   unfolding Turn
-  view-sum e = subst (Turn t done words v) e (turn h)
+  view-sum e = subst (Turn t done words v first end) e (turn h)
 
-  pub view-difference : k ≡ 4
-      → (a : Tree) × (b : Tree) × (rest : List Tree) × (done ≡ b ∷ a ∷ rest) × Finishes t (Tree.difference a b ∷ rest) words
+  pub view-difference : k ≡ 4 → TakesTwo t (Tree.difference (span first end)) done words
   unfolding Turn
-  view-difference e = subst (Turn t done words v) e (turn h)
+  view-difference e = subst (Turn t done words v first end) e (turn h)
 
-  pub view-product : k ≡ 5
-      → (a : Tree) × (b : Tree) × (rest : List Tree) × (done ≡ b ∷ a ∷ rest) × Finishes t (Tree.product a b ∷ rest) words
+  pub view-product : k ≡ 5 → TakesTwo t (Tree.product (span first end)) done words
   unfolding Turn
-  view-product e = subst (Turn t done words v) e (turn h)
+  view-product e = subst (Turn t done words v first end) e (turn h)
 
-  pub view-minus : k ≡ 6 → (a : Tree) × (rest : List Tree) × (done ≡ a ∷ rest) × Finishes t (Tree.minus a ∷ rest) words
+  pub view-minus : k ≡ 6 → (a : Tree) × (rest : List Tree) × (done ≡ a ∷ rest) × Finishes t (Tree.minus (span first end) a ∷ rest) words
   unfolding Turn
-  view-minus e = subst (Turn t done words v) e (turn h)
+  view-minus e = subst (Turn t done words v first end) e (turn h)
 
   pub view-power : k ≡ 7
-      → (place : ℕ) × (a : Tree) × (rest : List Tree) × (done ≡ a ∷ rest) × Finishes t (Tree.literalPower a place v ∷ rest) words
+      → (place : ℕ) × (a : Tree) × (rest : List Tree) × (done ≡ a ∷ rest) × Finishes t (Tree.literalPower (span first end) a place v ∷ rest) words
   unfolding Turn
-  view-power e = subst (Turn t done words v) e (turn h)
+  view-power e = subst (Turn t done words v first end) e (turn h)
 
   pub view-raise : k ≡ 8
-      → (place : ℕ) × (a : Tree) × (b : Tree) × (rest : List Tree) × (done ≡ b ∷ a ∷ rest) × Finishes t (Tree.raise a place b ∷ rest) words
+      → (place : ℕ) × (a : Tree) × (b : Tree) × (rest : List Tree) × (done ≡ b ∷ a ∷ rest) × Finishes t (Tree.raise (span first end) a place b ∷ rest) words
   unfolding Turn
-  view-raise e = subst (Turn t done words v) e (turn h)
+  view-raise e = subst (Turn t done words v first end) e (turn h)
 
-pub node-kind : {t : Tree} {done : List Tree} {words : List ℕ} {k v : ℕ} → Finishes t done (k ∷ v ∷ words) → (k < 9) × (k ≡ 2 → ⊥)
+pub node-kind : {t : Tree} {done : List Tree} {words : List ℕ} {k v first end : ℕ} → Finishes t done (k ∷ v ∷ first ∷ end ∷ words) → (k < 9) × (k ≡ 2 → ⊥)
 node-kind (number place v h) = (omega arith, λ e. omega (arith, e))
 node-kind (variable h) = (omega arith, λ e. omega (arith, e))
 node-kind (sum h) = (omega arith, λ e. omega (arith, e))
@@ -147,8 +146,8 @@ unfoldable pub sumNodes : List Tree → ℕ
 sumNodes [] = 0
 sumNodes (u ∷ done) = nodes u + sumNodes done
 
--- Two words for each node that is not yet read.
-pub nodes-left : {t : Tree} {done : List Tree} {words : List ℕ} → Finishes t done words → 2 * sumNodes done + length words ≡ 2 * nodes t
+-- Four words for each node that is not yet read.
+pub nodes-left : {t : Tree} {done : List Tree} {words : List ℕ} → Finishes t done words → 4 * sumNodes done + length words ≡ 4 * nodes t
 unfolding sumNodes nodes
 nodes-left finished = omega arith
 nodes-left (number place v h) = omega (arith, nodes-left h)

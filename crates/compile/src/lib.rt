@@ -7,7 +7,7 @@ use machine::TREE_START;
 use plan::PLAN_WORDS;
 ghost use Rattle.fold.specs.Compiling.{Compiling};
 
-// Compiles a formula's text on a grid into a lent plan of 2,561 words. A refusal alters no word; words past the plan's own stay.
+// Compiles a formula's text on a grid into a lent plan of 2,817 words. A refusal alters no word; words past the plan's own stay.
 pub fn compile(text: &[u8], start: u64, step: u64, plan: &mut [u64]) -> CompileAnswer
     ensures { λ r. ⌜ Compiling 64 (now (text .entry)) start step (now (plan .entry)) r (now (plan .exit)) ⌝ }
 {
@@ -17,7 +17,7 @@ pub fn compile(text: &[u8], start: u64, step: u64, plan: &mut [u64]) -> CompileA
             place: 0,
         };
     }
-    let read = formula_read::read(text, &mut plan[TREE_START..PLAN_WORDS]);
+    let read = formula_read::read_spanned(text, &mut plan[TREE_START..PLAN_WORDS]);
     if read.number != 0 {
         return CompileAnswer {
             number: read.number,

@@ -1,8 +1,8 @@
 // The nodes of a tree folded one after the other. The rows of finished operands stand at the beginning of the plan, the words of the tree at its
-// end; a node is read before the rows reach it.
+// end, four a node; a node is read before the rows reach it.
 use formula::NUMBER;
-use formula::TREE_WORDS;
 use formula::VARIABLE;
+use formula_read::SPANNED_TREE_WORDS;
 use plan::PLAN_WORDS;
 use plan_rows::kinds::DIFFERENCE;
 use plan_rows::kinds::LITERAL_POWER;
@@ -13,19 +13,19 @@ use plan_rows::kinds::SUM_CHAIN;
 use plan_rows::word;
 ghost use mathlib.Core.Path.{_≡_};
 ghost use mathlib.Core.List.{[], _∷_, _++_};
-ghost use Prim.Native.Nat.{_≤_, _<_};
+ghost use Prim.Native.Nat.{_+_, _≤_, _<_};
 ghost use lib.ListN.{length, drop};
 ghost use Rattle.plan.specs.Measures.{planLength, mostRows};
 ghost use Rattle.fold.specs.Folded.{trimmedSum};
-ghost use Rattle.fold_rows.specs.Standing.{placed};
+ghost use Rattle.fold_rows.specs.Standing.{placed, noSpan};
 ghost use Rattle.fold_operands.specs.Operands.{Two, FoldsBoth};
-ghost use Rattle.compile.specs.Machine.{foldBoth, Ends, FirstRow, AtNode, FoldsNode, Compilable, Written, FoldedAt};
-ghost use Rattle.formula.specs.Tree.{Tree};
+ghost use Rattle.compile.specs.Machine.{foldBoth, Ends, FirstRow, AtNode, FoldsNode, AtPlace, FoldsPlace, Compilable, Written, FoldedAt};
+ghost use Rattle.formula.specs.Tree.{Tree, spanOf};
 ghost use Rattle.fold.specs.Folding.{fold};
 ghost use Rattle.fold.specs.Layout.{planWords};
 
 // The tree stands in the last of the plan's own words, its nodes behind the node count.
-pub const TREE_START: usize = PLAN_WORDS - TREE_WORDS;
+pub const TREE_START: usize = PLAN_WORDS - SPANNED_TREE_WORDS;
 
 const NODES_START: usize = TREE_START + 1;
 
@@ -33,7 +33,7 @@ const NODES_START: usize = TREE_START + 1;
 fn put_pair(plan: &mut [u64], r: usize, first: u64, second: u64)
     requires { ⌜ planLength ≤ length (now plan) ⌝ }
     requires { ⌜ r < mostRows ⌝ }
-    ensures { λ _. ⌜ now (plan .exit) ≡ placed (now (plan .entry)) r (trimmedSum (first ∷ second ∷ [])) ⌝ }
+    ensures { λ _. ⌜ now (plan .exit) ≡ placed (now (plan .entry)) r noSpan (trimmedSum (first ∷ second ∷ [])) ⌝ }
 {
     let mut f = chain_arrays::zeros();
     f[0] = first;
@@ -72,7 +72,7 @@ fn first_row(plan: &[u64], end: usize) -> usize
     r
 }
 
-// One node: a number, x, or an operator on the operands that were finished last. Answers the row behind the last operand.
+// One node: a number, x, or an operator on the operands that were finished last, its span left out. Answers the row behind the last operand.
 fn fold_node(plan: &mut [u64], end: usize, kind: u64, word: u64, start: u64, step: u64) -> usize
     requires { ⌜ planLength ≤ length (now plan) ⌝ }
     requires { ⌜ AtNode start step (now plan) end kind word ⌝ }
@@ -97,6 +97,23 @@ fn fold_node(plan: &mut [u64], end: usize, kind: u64, word: u64, start: u64, ste
     fold_both(plan, kind, below, top, end)
 }
 
+// The node whose four words stand from `at` on: its root row, also that of an operand which it passes through, gets its whole span.
+fn fold_place(plan: &mut [u64], at: usize, end: usize, start: u64, step: u64) -> usize
+    requires { ⌜ planLength ≤ length (now plan) ⌝ }
+    requires { ⌜ at + 3 < planLength ⌝ }
+    requires { ⌜ AtPlace start step (now plan) end at ⌝ }
+    ensures { λ r. ⌜ FoldsPlace start step (now (plan .entry)) end at (now (plan .exit)) r ⌝ }
+{
+    let kind = plan[at];
+    let word = plan[at + 1];
+    let first_byte = plan[at + 2];
+    let end_byte = plan[at + 3];
+    let behind = fold_node(plan, end, kind, word, start, step);
+    let root = behind - 1;
+    fold_rows::put_span(plan, root, first_byte, end_byte);
+    behind
+}
+
 // All nodes of the tree whose words stand at the end of the plan. Answers the row behind the folded tree.
 fn fold_nodes(plan: &mut [u64], start: u64, step: u64) -> usize
     requires { ⌜ planLength ≤ length (now plan) ⌝ }
@@ -107,10 +124,8 @@ fn fold_nodes(plan: &mut [u64], start: u64, step: u64) -> usize
     let mut end = 0;
     let mut n = 0;
     while n < count {
-        let at = NODES_START + 2 * n;
-        let kind = plan[at];
-        let word = plan[at + 1];
-        end = fold_node(plan, end, kind, word, start, step);
+        let at = NODES_START + 4 * n;
+        end = fold_place(plan, at, end, start, step);
         n += 1;
     }
     end
@@ -121,7 +136,7 @@ pub fn fold_tree(plan: &mut [u64], start: u64, step: u64)
     requires { ⌜ planLength ≤ length (now plan) ⌝ }
     requires { ⌜ ((t : Tree) × Compilable start step t × Written (now plan) t) ⌝ }
     ensures { λ _. ⌜ ((t : Tree) → Compilable start step t → Written (now (plan .entry)) t
-        → now (plan .exit) ≡ planWords (fold 64 start step t) ++ drop planLength (now (plan .entry))) ⌝ }
+        → now (plan .exit) ≡ planWords (spanOf t) (fold 64 start step t) ++ drop planLength (now (plan .entry))) ⌝ }
 {
     let rows = fold_nodes(plan, start, step);
     plan[0] = rows as u64;

@@ -9,13 +9,13 @@ use lib.Dec.{eqb}
 use Rattle.word.specs.Word as Word
 use Rattle.chain.specs.Chain as Chain
 use Rattle.formula.specs.Bytes.{bytes}
-use Rattle.formula.specs.Tree.{Tree, number, variable, sum, difference, product, literalPower}
+use Rattle.formula.specs.Tree.{Span, span, Tree, number, variable, sum, difference, product, literalPower}
 use Rattle.formula.specs.Refusals.{Accepted}
 use Rattle.formula.specs.Value.{valueFor, directValue}
 use Rattle.formula_scan.proofs.Answers.{accepted-base}
 use Rattle.formula_scan.proofs.Closed.{judges}
 use Rattle.formula_scan.proofs.Verdicts.{verdict-accepted}
-use Rattle.fold.specs.Folded.{Folded, constant, ofSum, trimmedSum}
+use Rattle.fold.specs.Folded.{Spans, Folded, constant, ofSum, trimmedSum}
 use Rattle.fold.specs.Folding.{isSum, constants, foldSum, foldDifference, foldProduct, foldPower, fold}
 use Rattle.fold.proofs.Rules.{picked}
 use Rattle.fold.proofs.FoldShape.{accepted-formed}
@@ -28,27 +28,27 @@ lineOf start step still = ofSum (start ∷ cond still [] (step ∷ []))
 
 -- What holds of constants and trimmed sum chains holds of sums and differences of such, and of the square of x.
 module _ (P : Folded → Type 0) (of-constant : (c : ℕ) → P (constant c)) (of-sum : (f : List ℕ) → P (trimmedSum f)) where
-  module _ (a b : Folded) (h : isSum a ≡ true) (k : isSum b ≡ true) where
+  module _ (s : Spans) (a b : Folded) (h : isSum a ≡ true) (k : isSum b ≡ true) where
     no-third : {Q : Type 0} → (isSum a && isSum b) ≡ false → Q
     no-third e = absurd (false≢true (sym e ∙ ap₂ _&&_ h k))
 
-    sum-of-sums : P (foldSum 64 a b)
+    sum-of-sums : P (foldSum 64 s a b)
     unfolding foldSum
     sum-of-sums = picked P (constants a b) (λ e. of-constant _) (λ e. picked P (isSum a && isSum b) (λ q. of-sum _) (λ q. no-third q))
 
-    difference-of-sums : P (foldDifference 64 a b)
+    difference-of-sums : P (foldDifference 64 s a b)
     unfolding foldDifference
     difference-of-sums = picked P (constants a b) (λ e. of-constant _) (λ e. picked P (isSum a && isSum b) (λ q. of-sum _) (λ q. no-third q))
 
-  product-of-line : (start step : ℕ) (still : Bool) → P (foldProduct 64 (lineOf start step still) (lineOf start step still))
+  product-of-line : (s : Spans) (start step : ℕ) (still : Bool) → P (foldProduct 64 s (lineOf start step still) (lineOf start step still))
   unfolding foldProduct
-  product-of-line start step true = of-constant _
-  product-of-line start step false = of-sum _
+  product-of-line s start step true = of-constant _
+  product-of-line s start step false = of-sum _
 
-  power-of-line : (start step : ℕ) (still : Bool) → P (foldPower 64 (lineOf start step still) 2)
+  power-of-line : (s : Span) (start step : ℕ) (still : Bool) → P (foldPower 64 s (lineOf start step still) 2)
   unfolding foldPower
-  power-of-line start step true = of-constant _
-  power-of-line start step false = of-sum _
+  power-of-line s start step true = of-constant _
+  power-of-line s start step false = of-sum _
 
 trimmed-is-sum : (f : List ℕ) → isSum (trimmedSum f) ≡ true
 trimmed-is-sum f = made (Chain.trimmed 0 f)
@@ -59,16 +59,17 @@ trimmed-is-sum f = made (Chain.trimmed 0 f)
     made (a ∷ b ∷ g) = refl
 
 -- ---- any text that means x*x-x^2+7, wherever its parts stand
-module _ {s : List ℕ} {t : Tree} (A : Accepted 64 s t) {p q : ℕ}
-    (shape : t ≡ sum (difference (product variable variable) (literalPower variable p 2)) (number q 7)) (start step : ℕ) where
+module _ {s : List ℕ} {t : Tree} (A : Accepted 64 s t) {whole front times left right raised base last : Span} {p q : ℕ}
+    (shape : t ≡ sum whole (difference front (product times (variable left) (variable right)) (literalPower raised (variable base) p 2)) (number last q 7))
+    (start step : ℕ) where
   seven-sums : isSum (fold 64 start step t) ≡ true
   unfolding fold Chain.trimmed Chain.withoutTrailing Chain.withLast
   seven-sums =
       ap (λ u. isSum (fold 64 start step u)) shape
-      ∙ sum-of-sums IsSum (λ c. refl) trimmed-is-sum (foldDifference 64 square power) (constant 7)
-      (difference-of-sums IsSum (λ c. refl) trimmed-is-sum square power
-      (product-of-line IsSum (λ c. refl) trimmed-is-sum (Word.word 64 start) (Word.word 64 step) still)
-      (power-of-line IsSum (λ c. refl) trimmed-is-sum (Word.word 64 start) (Word.word 64 step) still))
+      ∙ sum-of-sums IsSum (λ c. refl) trimmed-is-sum (record { left = front; right = last }) (foldDifference 64 parts square power) (constant 7)
+      (difference-of-sums IsSum (λ c. refl) trimmed-is-sum parts square power
+      (product-of-line IsSum (λ c. refl) trimmed-is-sum factors (Word.word 64 start) (Word.word 64 step) still)
+      (power-of-line IsSum (λ c. refl) trimmed-is-sum base (Word.word 64 start) (Word.word 64 step) still))
       refl
     where
       IsSum : Folded → Type 0
@@ -80,11 +81,17 @@ module _ {s : List ℕ} {t : Tree} (A : Accepted 64 s t) {p q : ℕ}
       line : Folded
       line = lineOf (Word.word 64 start) (Word.word 64 step) still
 
+      factors : Spans
+      factors = record { left = left; right = right }
+
       square : Folded
-      square = foldProduct 64 line line
+      square = foldProduct 64 factors line line
 
       power : Folded
-      power = foldPower 64 line 2
+      power = foldPower 64 base line 2
+
+      parts : Spans
+      parts = record { left = times; right = raised }
 
   -- Its values are 7.
   seven-direct : (i : ℕ) → directValue 64 start step t i ≡ 7
@@ -104,10 +111,10 @@ module _ {s : List ℕ} {t : Tree} (A : Accepted 64 s t) {p q : ℕ}
   pub folds-to-seven : fold 64 start step t ≡ constant 7
   unfolding fold valueFor judges
   folds-to-seven =
-      equal-folds 64 start step start step t (number 0 7) (accepted-base A) (accepted-base seven)
+      equal-folds 64 start step start step t (number (span 0 1) 0 7) (accepted-base A) (accepted-base seven)
       (accepted-formed 64 start step A (omega arith)) (accepted-formed 64 start step seven (omega arith))
       seven-sums refl
       .1 (λ i h. seven-direct i)
     where
-      seven : Accepted 64 (bytes "7") (number 0 7)
+      seven : Accepted 64 (bytes "7") (number (span 0 1) 0 7)
       seven = verdict-accepted (bytes "7") refl

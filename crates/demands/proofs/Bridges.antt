@@ -8,13 +8,14 @@ use native.Mathlib.Nat.{div-self}
 use native.Mathlib.Omega.{arith}
 use lib.Dec.{eqb, ltb}
 use lib.ListN.{length, getD, take, drop, length-map, length-take, List·getD-eq-default, List·getD-append}
+use lib.Seq.{slice, getD-drop, getD-take}
 use borrow.Author.Tests.{ltb-true, ltb-false, lt-ltb, eqb-true, eqb-false}
 use Rattle.formula.specs.Words.{mostNodes}
-use Rattle.plan.specs.Measures.{planLength}
+use Rattle.plan.specs.Measures.{planLength, rowLength, mostRows, rowStart}
 use Rattle.word.specs.Word as Word
 use Rattle.word.proofs.Modulo.{mod-mul-mod, mul-mod-mod}
 use Rattle.formula.specs.declared.ReadAnswer.{ReadAnswer}
-use Rattle.formula.specs.Tree.{Tree, number, literalPower, nodes}
+use Rattle.formula.specs.Tree.{Span, first, end, Tree, spanOf, number, literalPower, nodes}
 use Rattle.formula.specs.Grammar.{Formula}
 use Rattle.formula.specs.Value.{directValue}
 use Rattle.formula.specs.Refusals.{TooDeep, StopsAt, Part, Fault, too-long, too-deep, not-grammar, number-over, exponent-number-over, exponent-over, too-many, x-in-base, even-base, Refused, Accepted}
@@ -39,16 +40,23 @@ use Rattle.chain.proofs.Shifting.{length-shift}
 use Rattle.chain.proofs.Calls.{length-joined, length-product}
 use Rattle.chain.proofs.CoefficientLaws.{value-coefficients, row-coefficients}
 use Rattle.fold.specs.Folding.{fold}
-use Rattle.fold.specs.Layout.{planWords}
-use Rattle.fold.proofs.ReadBack.{take-row}
+use Rattle.fold.specs.Layout.{rowCount, planWords}
+use Rattle.fold.specs.RowSpans.{Ordered, Says}
+use Rattle.fold.proofs.ReadBack.{take-row, row-back}
+use Rattle.fold.proofs.Origins.{root-first, root-end, rows-come}
+use Rattle.fold.proofs.RowMeaning.{plan-root}
 use Rattle.fold.proofs.Compiled as Compiled
-use Rattle.fold.specs.OneChain.{OneSum}
+use Rattle.fold.specs.OneChain.{OneSum, SameChain}
 use Rattle.fold.specs.declared.CompileAnswer.{CompileAnswer}
 use Rattle.fold.specs.Compiling.{Compiling, too-short, refused, accepted}
+use Rattle.plan.specs.Row.{firstByte, endByte, between, allZero}
 use Rattle.plan.specs.Plan as Plan
 use Rattle.plan.specs.Plan.{refusal}
 use Rattle.plan.specs.Points.{rootValue}
 use Rattle.plan.specs.Filling.{pointCost, pointsFor, planAfter, pointValues, fill}
+use Rattle.plan.specs.Eras.{rootRow}
+use Rattle.plan.proofs.RowLaws.{word-at}
+use Rattle.plan.proofs.SoundLaws.{and-left, and-right}
 use Rattle.plan.proofs.Keeping.{cost-after, refusal-after}
 use Rattle.plan.proofs.Accepting.{fill-accepted, refused-alters-nothing}
 use Rattle.plan.proofs.Sharing.{after-add, length-points, point-at, shared}
@@ -93,12 +101,12 @@ module _ {s : List ℕ} {start step : ℕ} {lent : List ℕ} where
   some-tree (accepted {t} h A) nought = (t, A)
 
   pub its-plan : {r : CompileAnswer} {q : List ℕ} {t : Tree} → Compiling 64 s start step lent r q → r .number ≡ 0 → Formula s t
-      → Accepted 64 s t × (q ≡ planWords (fold 64 start step t) ++ drop planLength lent)
+      → Accepted 64 s t × (q ≡ planWords (spanOf t) (fold 64 start step t) ++ drop planLength lent)
   its-plan (too-short h) nought means = absurd (omega arith)
   its-plan (refused h A) nought means = absurd (omega (arith, fault-number (A .applies)))
   its-plan (accepted h A) nought means =
       let same = unambiguous (A .means) means in
-      (subst (Accepted 64 s) same A, ap (λ t. planWords (fold 64 start step t) ++ drop planLength lent) same)
+      (subst (Accepted 64 s) same A, ap (λ t. planWords (spanOf t) (fold 64 start step t) ++ drop planLength lent) same)
 
 -- ---- read: a refusal leaves the lent tree
 pub tree-kept : {s lent q : List ℕ} {r : ReadAnswer} → Reading 64 s lent r q → (r .number ≡ 0 → ⊥) → q ≡ lent
@@ -148,7 +156,8 @@ module _ {s : List ℕ} where
 
 -- ---- a text within the limits has no fault
 module _ {s : List ℕ} {t : Tree} (means : Formula s t) (bytes : length s ≤ 1024) (brackets : (p : ℕ) → TooDeep s p → ⊥)
-    (numbers : (p v : ℕ) → Part (number p v) t → v < 2 ^ 64) (exponents : (a : Tree) (p n : ℕ) → Part (literalPower a p n) t → n ≤ 64)
+    (numbers : (k : Span) (p v : ℕ) → Part (number k p v) t → v < 2 ^ 64)
+    (exponents : (k : Span) (a : Tree) (p n : ℕ) → Part (literalPower k a p n) t → n ≤ 64)
     (size : nodes t ≤ mostNodes) (bases : OddBases 64 t) where
   here : {u v : Tree} → Formula s v → Part u v → Part u t
   here M k = subst (Part _) (unambiguous M means) k
@@ -157,12 +166,12 @@ module _ {s : List ℕ} {t : Tree} (means : Formula s t) (bytes : length s ≤ 1
   no-fault (too-long h) = omega arith
   no-fault (too-deep d) = brackets _ d
   no-fault (not-grammar S) = S .outside t means
-  no-fault (number-over M k h) = omega (arith, numbers _ _ (here M k))
-  no-fault (exponent-number-over M k h) = omega (arith, exponents _ _ _ (here M k))
-  no-fault (exponent-over M k h) = omega (arith, exponents _ _ _ (here M k))
+  no-fault (number-over M k h) = omega (arith, numbers _ _ _ (here M k))
+  no-fault (exponent-number-over M k h) = omega (arith, exponents _ _ _ _ (here M k))
+  no-fault (exponent-over M k h) = omega (arith, exponents _ _ _ _ (here M k))
   no-fault (too-many M h) = omega (arith, ap nodes (unambiguous M means))
-  no-fault (x-in-base M k e) = false≢true (sym (bases _ _ _ (here M k) .0) ∙ e)
-  no-fault (even-base M k e) = omega (arith, bases _ _ _ (here M k) .1)
+  no-fault (x-in-base M k e) = false≢true (sym (bases _ _ _ _ (here M k) .0) ∙ e)
+  no-fault (even-base M k e) = omega (arith, bases _ _ _ _ (here M k) .1)
 
 -- ---- fill: the answer's number is the plan's refusal
 pub fill-number : (p table : List ℕ) (budget : ℕ) → fill 64 p table budget .answer .number ≡ refusal p
@@ -343,7 +352,7 @@ module _ {s : List ℕ} {start step : ℕ} {lent : List ℕ} {r : CompileAnswer}
   allows : Accepted 64 s t
   allows = its-plan call nought means .0
 
-  leaves : q ≡ planWords (fold 64 start step t) ++ drop planLength lent
+  leaves : q ≡ planWords (spanOf t) (fold 64 start step t) ++ drop planLength lent
   leaves = its-plan call nought means .1
 
   pub its-refusal : refusal q ≡ 0
@@ -368,12 +377,88 @@ module _ {s : List ℕ} {start step : ℕ} {lent : List ℕ} {r : CompileAnswer}
   EqualRows : List ℕ → List ℕ → Type 0
   EqualRows p p′ =
       OneSum p → OneSum p′
-      → (Plan.row p 0 ≡ Plan.row p′ 0) ↔ ((i : ℕ) → i ≤ 16 → directValue 64 start step t i ≡ directValue 64 start′ step′ t′ i)
+      → SameChain (Plan.row p 0) (Plan.row p′ 0) ↔ ((i : ℕ) → i ≤ 16 → directValue 64 start step t i ≡ directValue 64 start′ step′ t′ i)
 
   pub their-rows : OneSum q → OneSum q′
-      → (Plan.row q 0 ≡ Plan.row q′ 0) ↔ ((i : ℕ) → i ≤ 16 → directValue 64 start step t i ≡ directValue 64 start′ step′ t′ i)
+      → SameChain (Plan.row q 0) (Plan.row q′ 0) ↔ ((i : ℕ) → i ≤ 16 → directValue 64 start step t i ≡ directValue 64 start′ step′ t′ i)
   unfolding EqualRows
   their-rows =
       subst₂ EqualRows (sym (leaves call nought means)) (sym (leaves call′ nought′ means′))
       (Compiled.compiled-equal 64 start step (omega arith) (allows call nought means) (drop planLength lent) start′ step′
       (allows call′ nought′ means′) (drop planLength lent′))
+
+-- ---- rows and their spans
+-- The rows of a sound plan that word 0 does not count are all 0.
+zero-at : (f : List ℕ) → allZero f ≡ true → (j : ℕ) → getD f j 0 ≡ 0
+unfolding allZero
+zero-at [] e j = refl
+zero-at (a ∷ f) e zero = eqb-true a 0 (and-left (eqb a 0) _ e)
+zero-at (a ∷ f) e (suc j) = zero-at f (and-right (eqb a 0) _ e) j
+
+pub other-rows : (p : List ℕ) → Plan.sound p ≡ true → (r j : ℕ) → Plan.rowCount p ≤ r → r < mostRows → j < rowLength → getD (Plan.row p r) j 0 ≡ 0
+unfolding Plan.sound
+other-rows p sound r j past few here =
+    word-at p r j here
+    ∙ ap (λ k. getD p k 0) place
+    ∙ sym (getD-take planLength p (rowStart (Plan.rowCount p) + behind) 0 (omega arith))
+    ∙ sym (getD-drop (rowStart (Plan.rowCount p)) (take planLength p) behind 0)
+    ∙ zero-at (slice (rowStart (Plan.rowCount p)) planLength p) zeros behind
+  where
+    zeros : allZero (slice (rowStart (Plan.rowCount p)) planLength p) ≡ true
+    zeros = and-right (Plan.soundFrom [] (Plan.rows p)) _ (and-right (between 1 mostRows (Plan.rowCount p)) _ sound)
+
+    behind : ℕ
+    behind = rowLength * (r - Plan.rowCount p) + j
+
+    place : rowStart r + j ≡ rowStart (Plan.rowCount p) + behind
+    place = omega arith
+
+module _ {s : List ℕ} {start step : ℕ} {lent : List ℕ} {r : CompileAnswer} {q : List ℕ} (call : Compiling 64 s start step lent r q)
+    (nought : r .number ≡ 0) where
+  -- What holds of the plan of every accepted formula holds of the one that is left.
+  as-compiled : (P : List ℕ → Type 0)
+      → ((t : Tree) → Accepted 64 s t → P (planWords (spanOf t) (fold 64 start step t) ++ drop planLength lent)) → P q
+  as-compiled P holds =
+      let (t, A) = some-tree call nought in
+      subst P (sym (its-plan call nought (A .means) .1)) (holds t A)
+
+  pub its-says : (i : ℕ) → i < Plan.rowCount q → Says 64 s start step (Plan.row q i)
+  its-says =
+      as-compiled (λ p. (i : ℕ) → i < Plan.rowCount p → Says 64 s start step (Plan.row p i))
+      (λ t A. Compiled.compiled-says 64 start step (omega arith) A (drop planLength lent))
+
+  pub its-order : (i : ℕ) → i < Plan.rowCount q → Ordered (Plan.row q) (Plan.row q i)
+  its-order =
+      as-compiled (λ p. (i : ℕ) → i < Plan.rowCount p → Ordered (Plan.row p) (Plan.row p i))
+      (λ t A. Compiled.compiled-ordered 64 start step (omega arith) A (drop planLength lent))
+
+  pub its-ends : (i : ℕ) → i < Plan.rowCount q → endByte (Plan.row q i) ≤ length s
+  its-ends =
+      as-compiled (λ p. (i : ℕ) → i < Plan.rowCount p → endByte (Plan.row p i) ≤ length s)
+      (λ t A. Compiled.compiled-within 64 start step (omega arith) A (drop planLength lent))
+
+  module _ {t : Tree} (means : Formula s t) where
+    pub its-root : (firstByte (rootRow q) ≡ first (spanOf t)) × (endByte (rootRow q) ≡ end (spanOf t))
+    its-root =
+        let folded = fold 64 start step t in
+        let root = ap rootRow (leaves call nought means) ∙ plan-root (spanOf t) folded (drop planLength lent) in
+        (ap (λ x. firstByte x) root ∙ root-first 0 folded (spanOf t), ap (λ x. endByte x) root ∙ root-end 0 folded (spanOf t))
+
+    pub its-node : (i : ℕ) → i < Plan.rowCount q
+        → (u : Tree) × Part u t × (firstByte (Plan.row q i) ≡ first (spanOf u)) × (endByte (Plan.row q i) ≡ end (spanOf u))
+    its-node = subst Nodes (sym (leaves call nought means)) nodes-known
+      where
+        Nodes : List ℕ → Type 0
+        Nodes p =
+            (i : ℕ) → i < Plan.rowCount p
+            → (u : Tree) × Part u t × (firstByte (Plan.row p i) ≡ first (spanOf u)) × (endByte (Plan.row p i) ≡ end (spanOf u))
+
+        nodes-known : Nodes (planWords (spanOf t) (fold 64 start step t) ++ drop planLength lent)
+        nodes-known i h =
+            let row = rows-come 64 start step t i h in
+            let words = row-back (spanOf t) (fold 64 start step t) (drop planLength lent) i h ∙ row .words in (
+              row .part,
+              row .stands,
+              ap (λ x. firstByte x) words ∙ root-first (row .from) (fold 64 start step (row .part)) (spanOf (row .part)),
+              ap (λ x. endByte x) words ∙ root-end (row .from) (fold 64 start step (row .part)) (spanOf (row .part)),
+            )

@@ -13,17 +13,17 @@ use lib.ListN.{length, getD, take, drop, replicate}
 use lib.IntN.{ℤ, pos, negsuc, negℤ, _+ℤ_, _*ℤ_}
 use lib.Signed.{_<ℤ_, _≤ℤ_}
 use borrow.Author.Tests.{lt-ltb, le-ltb}
-use Rattle.plan.specs.Measures.{planLength}
+use Rattle.plan.specs.Measures.{planLength, rowLength}
 use Rattle.word.specs.Word as Word
 use Rattle.word.specs.Signed as Signed
 use Rattle.word.specs.Signed.{half, signed}
 use Rattle.word.proofs.Unique as WordPromises
 use Rattle.word.proofs.Unique.{both-are}
 use Rattle.formula.specs.declared.ReadAnswer.{ReadAnswer}
-use Rattle.formula.specs.Tree.{Tree}
+use Rattle.formula.specs.Tree.{first, end, Tree, spanOf}
 use Rattle.formula.specs.Grammar.{Formula}
 use Rattle.formula.specs.Value.{directValue}
-use Rattle.formula.specs.Refusals.{count, TooDeep, StopsAt, Fault, too-long, too-deep, not-grammar, Refused, Accepted, Reading}
+use Rattle.formula.specs.Refusals.{count, TooDeep, StopsAt, Part, Fault, too-long, too-deep, not-grammar, Refused, Accepted, Reading}
 use Rattle.formula_scan.proofs.Answers.{accepted-fits, accepted-base, reading-unique}
 use Rattle.formula_scan.proofs.GrammarScan.{unambiguous, decided}
 use Rattle.chain.specs.declared.ChainAnswer.{ChainAnswer}
@@ -53,9 +53,11 @@ use Rattle.plan.specs.declared.FillErasAnswer.{FillErasAnswer}
 use Rattle.plan.specs.declared.CostAnswer.{CostAnswer}
 use Rattle.plan.specs.declared.SoundAnswer.{SoundAnswer}
 use Rattle.plan.specs.Plan as Plan
-use Rattle.plan.specs.Row.{firstElement}
+use Rattle.plan.specs.Row.{Row, firstElement, firstByte, endByte}
 use Rattle.plan.specs.Points.{rootValue}
 use Rattle.plan.specs.Filling.{pointCost, pointsFor, planAfter, filled, fillRefused, fill, costAnswer, soundAnswer}
+use Rattle.plan.proofs.RowLaws as Rows
+use Rattle.plan.proofs.SpanLaws as Spans
 use Rattle.plan.proofs.Accepting.{refused-alters-nothing}
 use Rattle.plan.proofs.Sharing as Sharing
 use Rattle.plan.specs.Eras.{rootRow, erasOver, position, AreWords, constantOrSum, erasRefusal, withSum, fillEras, sumOf}
@@ -64,9 +66,11 @@ use Rattle.plan.specs.Calls.{Call, planLeft, pointsOf, written}
 use Rattle.fold.specs.Folding.{fold}
 use Rattle.fold.specs.Layout.{planWords}
 use Rattle.fold.proofs.Compiled as Compiled
-use Rattle.fold.specs.OneChain.{OneSum}
+use Rattle.fold.specs.OneChain.{OneSum, SameChain}
+use Rattle.fold.specs.RowSpans.{Ordered, SameRow, textOf}
 use Rattle.fold.specs.declared.CompileAnswer.{CompileAnswer}
 use Rattle.fold.specs.Compiling.{Compiling, too-short, refused, accepted}
+use Rattle.fold.proofs.Promise as Promise
 use Rattle.fold.proofs.Promise.{compiling-unique}
 use Rattle.probe.specs.declared.ProbeAnswer.{ProbeAnswer}
 use Rattle.probe.specs.declared.Verdict.the-variants.{NoVerdict}
@@ -121,7 +125,8 @@ pub compile-answers : (s : List ℕ) (start step : ℕ) (lent : List ℕ) → (r
 compile-answers = Bridges.some-answer
 
 module _ {s : List ℕ} {start step : ℕ} {lent : List ℕ} {r : CompileAnswer} {q : List ℕ} (call : Compiling 64 s start step lent r q) where
-  -- "1: plan shorter than 2,561 words", ahead of whatever is wrong with the text.
+  -- "1: plan shorter than 2,561 words", now 2,817: "Row offsets and refusal 1's limit follow" (request Five of document 02). Ahead of whatever is
+  -- wrong with the text.
   pub compile-short : length lent < planLength → r ≡ record { number = 1; place = 0 }
   compile-short h = compiling-unique call (too-short h) .0
 
@@ -147,8 +152,8 @@ module _ {s : List ℕ} {start step : ℕ} {lent : List ℕ} {r : CompileAnswer}
 pub refused-read-keeps : {s lent q : List ℕ} {r : ReadAnswer} → Reading 64 s lent r q → (r .number ≡ 0 → ⊥) → q ≡ lent
 refused-read-keeps = Bridges.tree-kept
 
--- ---- fill, cost and sound, whatever plan and table hold. "1: plan shorter than 2,561 words", ahead of 9. `fillRefused` is "0 points and 0
--- spent", with table and plan as they were.
+-- ---- fill, cost and sound, whatever plan and table hold. "1: plan shorter than 2,561 words", now 2,817, ahead of 9. `fillRefused` is "0 points
+-- and 0 spent", with table and plan as they were.
 pub plan-short : (p table : List ℕ) (budget : ℕ) → length p < planLength
     → (fill 64 p table budget ≡ fillRefused 1 p table)
     × (costAnswer p ≡ record { number = 1; place = 0; cost = 0 }) × (soundAnswer p ≡ record { number = 1; place = 0 })
@@ -254,10 +259,12 @@ module _ {s : List ℕ} {start step : ℕ} {lent : List ℕ} {r : CompileAnswer}
       let A = Bridges.first-fault call (Bridges.long-enough call (omega arith)) (λ z. omega arith) in
       Bridges.leaves-grammar (A .applies) e
 
-  -- "Compiling folds exactly where 01 folds, and the plan has 01's layout": the words are those of the folded tree, all 2,561 of them, and
-  -- the words after these stay. Folding.antt and Layout.antt have the rules, each under 01's sentence.
+  -- "Compiling folds exactly where 01 folds, and the plan has 01's layout", which "reads so from then on" with request Five's spans: the words are
+  -- those of the folded tree and of the root's span, all 2,817 of them, and the words after these stay. Folding.antt and Layout.antt have the rules,
+  -- each under its sentence.
   pub plan-layout : r .number ≡ 0 → {t : Tree} → Formula s t
-      → (q ≡ planWords (fold 64 start step t) ++ drop planLength lent) × (length (planWords (fold 64 start step t)) ≡ planLength)
+      → (q ≡ planWords (spanOf t) (fold 64 start step t) ++ drop planLength lent)
+      × (length (planWords (spanOf t) (fold 64 start step t)) ≡ planLength)
   plan-layout nought means =
       let (A, e) = Bridges.its-plan call nought means in
       (e, Compiled.compiled-length 64 start step (omega arith) A)
@@ -394,13 +401,13 @@ writes-one p table budget nought room enough =
     (some, Bridges.word-written p sound [] table budget 0 some)
 
 -- "the chains are equal exactly when the direct values agree at indices 0 to 16, each on its own grid". `OneSum` is a plan of one row, of kind 0 or
--- 1; the row holds kind, length and elements.
+-- 1; `SameChain` says that the rows are equal in kind, length and elements. Their spans are left out, since two texts differ in them.
 module _ {s : List ℕ} {start step : ℕ} {lent : List ℕ} {r : CompileAnswer} {q : List ℕ} (call : Compiling 64 s start step lent r q)
     (nought : r .number ≡ 0) {t : Tree} (means : Formula s t)
     {s′ : List ℕ} {start′ step′ : ℕ} {lent′ : List ℕ} {r′ : CompileAnswer} {q′ : List ℕ} (call′ : Compiling 64 s′ start′ step′ lent′ r′ q′)
     (nought′ : r′ .number ≡ 0) {t′ : Tree} (means′ : Formula s′ t′) where
   pub equal-chains : OneSum q → OneSum q′
-      → (Plan.row q 0 ≡ Plan.row q′ 0) ↔ ((i : ℕ) → i ≤ 16 → directValue 64 start step t i ≡ directValue 64 start′ step′ t′ i)
+      → SameChain (Plan.row q 0) (Plan.row q′ 0) ↔ ((i : ℕ) → i ≤ 16 → directValue 64 start step t i ≡ directValue 64 start′ step′ t′ i)
   equal-chains = Bridges.their-rows call nought means call′ nought′ means′
 
 -- ======== Request One of document 02: "Each sum chain shift shall also say how its first element crossed: with f1 read as a signed number d, +1 if f0 + d
@@ -598,6 +605,63 @@ module _ (f : List ℕ) (k : ℕ) (long : length f ≡ 17) (fits : (i : ℕ) →
   pub conversions-keep-length :
       (answered (toBackwardOutcome 64 f k) .length ≡ answered (trimOutcome f k) .length) × (answered (toForwardOutcome 64 f k) .length ≡ answered (trimOutcome f k) .length)
   conversions-keep-length = (BackwardCalls.to-backward-call-length 64 f k long fits short, BackwardCalls.to-forward-call-length 64 f k long fits short)
+
+-- ======== Request Five of document 02: "Each plan row gets two more words at its end, first byte and end byte (the byte after the last) of the text it came
+-- from; the row is then 22 words and the plan 2,817." "Row offsets and refusal 1's limit follow": word j of row r is word 1 + 22r + j of the plan.
+pub row-offsets : (rowLength ≡ 22) × (planLength ≡ 2817)
+    × ((p : List ℕ) (r j : ℕ) → j < 22 → getD (Plan.row p r) j 0 ≡ getD p (1 + 22 * r + j) 0)
+    × ((x : Row) → (firstByte x ≡ getD x 20 0) × (endByte x ≡ getD x 21 0))
+row-offsets = (refl, refl, Rows.word-at, λ x. (refl, refl))
+
+-- "a plan is sound only if, in each row counted by word 0, the first byte is below the end byte and the end is at most 1,024; the other rows stay all 0".
+pub sound-spans : (p : List ℕ) → Plan.sound p ≡ true
+    → ((r : ℕ) → r < Plan.rowCount p → (firstByte (Plan.row p r) < endByte (Plan.row p r)) × (endByte (Plan.row p r) ≤ 1024))
+    × ((r j : ℕ) → Plan.rowCount p ≤ r → r < 128 → j < 22 → getD (Plan.row p r) j 0 ≡ 0)
+sound-spans p sound = (λ r. Spans.sound-span p r sound, Bridges.other-rows p sound)
+
+module _ {s : List ℕ} {start step : ℕ} {lent : List ℕ} {r : CompileAnswer} {q : List ℕ} (call : Compiling 64 s start step lent r q)
+    (nought : r .number ≡ 0) where
+  -- "A folded row spans all of the text it stands for": the bytes from first to end are an accepted formula, and compiled alone on the same grid they
+  -- give a plan whose root row is that row, in kind, chain length, literal exponent and elements.
+  pub row-says : (i : ℕ) → i < Plan.rowCount q → {lent′ : List ℕ} {r′ : CompileAnswer} {q′ : List ℕ} → planLength ≤ length lent′
+      → Compiling 64 (textOf s (Plan.row q i)) start step lent′ r′ q′
+      → (r′ ≡ record { number = 0; place = 0 }) × SameRow (Plan.row q i) (rootRow q′)
+  row-says i here {lent′} long alone =
+      let (_, cut, same) = Bridges.its-says call nought i here lent′ long in
+      let (answer, plan) = compiling-unique alone cut in
+      (answer, subst (λ p. SameRow (Plan.row q i) (rootRow p)) (sym plan) same)
+
+  -- "with the brackets around it counted only if they lie inside": each row's span is that of a part of the formula's tree, by the grammar.
+  pub row-spans : {t : Tree} → Formula s t → (i : ℕ) → i < Plan.rowCount q
+      → (u : Tree) × Part u t × (firstByte (Plan.row q i) ≡ first (spanOf u)) × (endByte (Plan.row q i) ≡ end (spanOf u))
+  row-spans = Bridges.its-node call nought
+
+  -- "An operand passed through unchanged, as in 1*A, takes the whole span": whatever row the root folds to, its span is the whole tree's.
+  pub root-spans : {t : Tree} → Formula s t → (firstByte (rootRow q) ≡ first (spanOf t)) × (endByte (rootRow q) ≡ end (spanOf t))
+  root-spans = Bridges.its-root call nought
+
+  -- The spans of operand rows lie within their operator's, left before right, without overlap; none goes past the text.
+  pub rows-ordered : (i : ℕ) → i < Plan.rowCount q → Ordered (Plan.row q) (Plan.row q i)
+  rows-ordered = Bridges.its-order call nought
+
+  pub rows-within : (i : ℕ) → i < Plan.rowCount q → endByte (Plan.row q i) ≤ length s
+  rows-within = Bridges.its-ends call nought
+
+-- Filling leaves the spans of all rows, however often it is called, with era count or without, and whatever the plan holds.
+pub spans-stay : (p : List ℕ) (calls : List Call) (r : ℕ)
+    → let left = planLeft 64 p calls in
+    (firstByte (Plan.row left r) ≡ firstByte (Plan.row p r)) × (endByte (Plan.row left r) ≡ endByte (Plan.row p r))
+spans-stay = Spans.spans-stay-called 64
+
+pub spans-stay-counted : (p table : List ℕ) (budget r : ℕ)
+    → let left = fillEras 64 p table budget .plan in
+    (firstByte (Plan.row left r) ≡ firstByte (Plan.row p r)) × (endByte (Plan.row left r) ≡ endByte (Plan.row p r))
+spans-stay-counted = Spans.spans-stay-counted 64
+
+-- Whether a formula is accepted still does not depend on the grid, nor does a refusal's number and place.
+pub grid-free : {s : List ℕ} {start step start′ step′ : ℕ} {lent : List ℕ} {r r′ : CompileAnswer} {q q′ : List ℕ}
+    → Compiling 64 s start step lent r q → Compiling 64 s start′ step′ lent r′ q′ → r ≡ r′
+grid-free = Promise.grid-free
 
 -- ======== "any two conforming answers are proved equal", with all that the call leaves in what it was lent
 pub compile-unique : {s : List ℕ} {start step : ℕ} {lent : List ℕ} {r r′ : CompileAnswer} {q q′ : List ℕ}

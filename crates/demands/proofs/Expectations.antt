@@ -7,7 +7,7 @@ use native.Mathlib.Omega.{arith}
 use lib.ListN.{length, getD, drop, replicate, length-replicate}
 use Rattle.plan.specs.Measures.{planLength}
 use Rattle.chain.specs.Coefficients.{tabulated}
-use Rattle.formula.specs.Tree.{Tree}
+use Rattle.formula.specs.Tree.{Span, Tree, spanOf}
 use Rattle.formula.specs.Refusals.{Refused, Accepted}
 use Rattle.formula.specs.Value.{directValue}
 use Rattle.formula_scan.proofs.Answers.{accepted-base}
@@ -45,13 +45,13 @@ module _ (s : List ℕ) (start step : ℕ) where
     folded = fold 64 start step t
 
     abbrev rowsOf : List Row
-    rowsOf = rowsFrom 0 folded
+    rowsOf = rowsFrom 0 (spanOf t) folded
 
     abbrev lent : List ℕ → List ℕ
-    lent rest = planWords folded ++ rest
+    lent rest = planWords (spanOf t) folded ++ rest
 
     cost-by-rows : (rest : List ℕ) → Plan.cost (lent rest) ≡ Plan.costOf rowsOf
-    cost-by-rows rest = ap Plan.costOf (rows-back folded rest)
+    cost-by-rows rest = ap Plan.costOf (rows-back (spanOf t) folded rest)
 
     direct-points : (n : ℕ) (rest : List ℕ) → pointValues 64 n (lent rest) ≡ tabulated (directValue 64 start step t) 0 n
     direct-points n rest =
@@ -67,7 +67,7 @@ module _ (s : List ℕ) (start step : ℕ) where
       compiles =
           compiles-only
           (λ given long. subst (λ p. Compiling 64 s start step given (record { number = 0; place = 0 }) (p ++ drop planLength given)) laid (accepted long A));
-      has-rows = λ rest. ap (λ p. Plan.rows (p ++ rest)) (sym laid) ∙ rows-back folded rest ∙ same-rows;
+      has-rows = λ rest. ap (λ p. Plan.rows (p ++ rest)) (sym laid) ∙ rows-back (spanOf t) folded rest ∙ same-rows;
       costs =
           λ rest. subst (λ p. costAnswer (p ++ rest) ≡ record { number = 0; place = 0; cost = cost }) laid
           (sym
@@ -79,14 +79,14 @@ module _ (s : List ℕ) (start step : ℕ) where
           ∙ ap (λ l. getD l i 0) (written []);
     }
       where
-        laid : planWords folded ≡ planOf rows
-        laid = plan-by-rows folded ∙ ap planOf same-rows
+        laid : planWords (spanOf t) folded ≡ planOf rows
+        laid = plan-by-rows (spanOf t) folded ∙ ap planOf same-rows
 
         written : (rest : List ℕ) → pointValues 64 (length values) (lent rest) ≡ values
         written rest = direct-points (length values) rest ∙ same-values
 
     -- The folded tree is a constant.
-    module _ {value : ℕ} (same : folded ≡ constant value) where
+    module _ {value : ℕ} {whole : Span} (same : folded ≡ constant value) (spans : spanOf t ≡ whole) where
       constant-value : (i : ℕ) → directValue 64 start step t i ≡ value
       unfolding WellFormed valueAt
       constant-value i =
@@ -99,10 +99,10 @@ module _ (s : List ℕ) (start step : ℕ) where
       constant-values m zero = refl
       constant-values m (suc n) = ap₂ {C = List ℕ} _∷_ (constant-value m) (constant-values (suc m) n)
 
-      pub constantly-so : (n : ℕ) → FoldsSo s start step (Starred.alone (Starred.constant value)) 0 (replicate n value)
+      pub constantly-so : (n : ℕ) → FoldsSo s start step (Starred.alone (Starred.constant value whole)) 0 (replicate n value)
       unfolding rowsFrom Plan.costOf kindFacts
       constantly-so n =
-          folds-so (ap (rowsFrom 0) same) (ap (λ a. Plan.costOf (rowsFrom 0 a)) same)
+          folds-so (ap₂ (rowsFrom 0) spans same) (ap₂ (λ k a. Plan.costOf (rowsFrom 0 k a)) spans same)
           (constant-values 0 (length (replicate n value)) ∙ ap (λ k. replicate k value) (length-replicate n value))
 
     pub fills-so : {budget room points spent : ℕ} {left : List Row} → pointsByRows budget room rowsOf ≡ points
@@ -133,5 +133,5 @@ module _ (s : List ℕ) (start step : ℕ) where
 
         after : (rest : List ℕ) → planAfter 64 points (lent rest) ≡ planOf left ++ rest
         after rest =
-            left-by-rows folded 64 points rest
+            left-by-rows (spanOf t) folded 64 points rest
             ∙ ap (λ l. planOf l ++ rest) (ap (λ n. shiftedRows 64 n rowsOf) (sym same-points) ∙ same-left)

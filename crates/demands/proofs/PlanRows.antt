@@ -13,6 +13,7 @@ use Rattle.plan.specs.Plan as Plan
 use Rattle.plan.specs.Points.{rootValue, shiftedRow, shiftedFrom, shiftedPlan}
 use Rattle.plan.specs.Filling.{planAfter, pointValues}
 use Rattle.plan.proofs.Keeping.{rows-shifted, past-rows}
+use Rattle.formula.specs.Tree.{Span}
 use Rattle.fold.specs.Folded.{Folded}
 use Rattle.fold.specs.Layout.{rowCount, rowsFrom, wordsOf, planWords}
 use Rattle.fold.proofs.ReadBack.{rows-of, length-tree, afterRows, words-back, rows-back}
@@ -70,24 +71,25 @@ points-known w (suc n) m p known h =
     next i = omega arith
 
 -- ---- the plan of a folded tree
-module _ (a : Folded) where
-  pub plan-by-rows : planWords a ≡ planOf (rowsFrom 0 a)
-  plan-by-rows = ap {B = List ℕ} (λ n. n ∷ wordsOf (rowsFrom 0 a) ++ replicate (rowsLength - rowLength * n) 0) (sym (rows-of 0 a .count))
+module _ (whole : Span) (a : Folded) where
+  pub plan-by-rows : planWords whole a ≡ planOf (rowsFrom 0 whole a)
+  plan-by-rows = ap {B = List ℕ} (λ n. n ∷ wordsOf (rowsFrom 0 whole a) ++ replicate (rowsLength - rowLength * n) 0) (sym (rows-of 0 whole a .count))
 
-  pub left-by-rows : (w n : ℕ) (rest : List ℕ) → planAfter w n (planWords a ++ rest) ≡ planOf (shiftedRows w n (rowsFrom 0 a)) ++ rest
+  pub left-by-rows : (w n : ℕ) (rest : List ℕ) → planAfter w n (planWords whole a ++ rest) ≡ planOf (shiftedRows w n (rowsFrom 0 whole a)) ++ rest
   left-by-rows w n rest =
-      after-rows w n (rowCount a) ((wordsOf (rowsFrom 0 a) ++ replicate (rowsLength - rowLength * rowCount a) 0) ++ rest)
-      ∙ ap₂ {C = List ℕ} (λ rows l. rowCount a ∷ wordsOf (shiftedRows w n rows) ++ l) (rows-back a rest) past
+      after-rows w n (rowCount a) ((wordsOf (rowsFrom 0 whole a) ++ replicate (rowsLength - rowLength * rowCount a) 0) ++ rest)
+      ∙ ap₂ {C = List ℕ} (λ rows l. rowCount a ∷ wordsOf (shiftedRows w n rows) ++ l) (rows-back whole a rest) past
       ∙ ap {B = List ℕ} (λ k. k ∷ wordsOf left ++ (replicate (rowsLength - rowLength * k) 0 ++ rest)) (sym count)
       ∙ ap {B = List ℕ} (λ l. length left ∷ l) (sym (append-assoc (wordsOf left) (replicate (rowsLength - rowLength * length left) 0) rest))
     where
       left : List Row
-      left = shiftedRows w n (rowsFrom 0 a)
+      left = shiftedRows w n (rowsFrom 0 whole a)
 
       count : length left ≡ rowCount a
-      count = length-shifted-rows w n (rowsFrom 0 a) ∙ rows-of 0 a .count
+      count = length-shifted-rows w n (rowsFrom 0 whole a) ∙ rows-of 0 whole a .count
 
-      past : drop (rowLength * rowCount a) ((wordsOf (rowsFrom 0 a) ++ replicate (rowsLength - rowLength * rowCount a) 0) ++ rest) ≡ afterRows a rest
+      past : drop (rowLength * rowCount a) ((wordsOf (rowsFrom 0 whole a) ++ replicate (rowsLength - rowLength * rowCount a) 0) ++ rest)
+          ≡ afterRows whole a rest
       past =
-          ap (λ l. drop (rowLength * rowCount a) l) (words-back a rest)
-          ∙ drop-at (wordsOf (rowsFrom 0 a)) (afterRows a rest) (rowLength * rowCount a) (length-tree 0 a)
+          ap (λ l. drop (rowLength * rowCount a) l) (words-back whole a rest)
+          ∙ drop-at (wordsOf (rowsFrom 0 whole a)) (afterRows whole a rest) (rowLength * rowCount a) (length-tree 0 whole a)

@@ -9,7 +9,7 @@ use lib.ListN.{length, getD}
 use Rattle.chain.specs.Chain.{shift, joined, withLast, withoutTrailing, trimmed, row}
 use Rattle.chain.specs.SumChain.{times, productBy, power}
 use Rattle.chain.specs.Coefficients.{tabulated}
-use Rattle.formula.specs.Tree.{Tree}
+use Rattle.formula.specs.Tree.{Span, Tree, spanOf}
 use Rattle.formula.specs.Value.{valueFor, directValue}
 use Rattle.formula_scan.specs.Verdict.{Verdict, refused, accepted, verdict}
 use Rattle.formula_scan.proofs.Closed.{judges}
@@ -35,7 +35,7 @@ foldedOf start step t = fold 64 start step t
 
 unfoldable pub rowsOf : (start step : ℕ) → Tree → List Row
 unfolding foldedOf rowCount rowsFrom row
-rowsOf start step t = rowsFrom 0 (foldedOf start step t)
+rowsOf start step t = rowsFrom 0 (spanOf t) (foldedOf start step t)
 
 abbrev pub foldsTo : (start step count : ℕ) → Tree → List Row → Expected
 foldsTo start step count t rows = folds rows (costOf rows) (tabulated (directValue 64 start step t) 0 count)
@@ -45,16 +45,16 @@ fillsTo budget room rows =
     let points = pointsByRows budget room rows in
     fills budget room points (points * (costOf rows + 1)) (shiftedRows 64 points rows)
 
--- A constant; anything else is put as a refusal that no text gets.
-abbrev pub constantTo : Folded → Expected
-constantTo a = cond (isConstant a) (constantly (wordOf a)) (refusal 0 0)
+-- A constant with its span; anything else is put as a refusal that no text gets.
+abbrev pub constantTo : Span → Folded → Expected
+constantTo whole a = cond (isConstant a) (constantly (wordOf a) whole) (refusal 0 0)
 
 -- As many values as are expected, and the filling with the budget and room that are given.
 unfoldable pub foundOf : (start step : ℕ) → Expected → Verdict → Expected
 foundOf start step e (refused n p) = refusal n p
 foundOf start step (refusal n p) (accepted t) = foldsTo start step 0 t (rowsOf start step t)
 foundOf start step (folds rows cost values) (accepted t) = foldsTo start step (length values) t (rowsOf start step t)
-foundOf start step (constantly value) (accepted t) = constantTo (foldedOf start step t)
+foundOf start step (constantly value whole) (accepted t) = constantTo (spanOf t) (foldedOf start step t)
 foundOf start step (fills budget room points spent left) (accepted t) = fillsTo budget room (rowsOf start step t)
 
 -- On any grid nothing is computed.
@@ -82,16 +82,17 @@ OnAnyGrid (c ∷ l) = Besides (c .grid) (Says c) (OnAnyGrid l)
 on-any-grid : OnAnyGrid starred
 unfolding starred OnAnyGrid judges
 on-any-grid = (
-  λ start step. let seven = verdict-accepted _ refl in constantly-so _ start step seven (folds-to-seven seven refl start step),
+  λ start step. let seven = verdict-accepted _ refl in constantly-so _ start step seven (folds-to-seven seven refl start step) refl,
   tt,
 )
 
 -- ---- a case read off
 module _ (s : List ℕ) (start step : ℕ) where
-  constant-says : {t : Tree} {value : ℕ} → verdict s ≡ accepted t → (b : Bool) → isConstant (fold 64 start step t) ≡ b
-      → cond b (constantly (wordOf (fold 64 start step t))) (refusal 0 0) ≡ constantly value → SaysOf s start step (constantly value)
-  constant-says {t} h true e same =
-      constantly-so s start step (verdict-accepted s h) (shaped (fold 64 start step t) .constantly e ∙ ap constant (cc))
+  constant-says : {t : Tree} {value : ℕ} {whole : Span} → verdict s ≡ accepted t → (b : Bool) → isConstant (fold 64 start step t) ≡ b
+      → cond b (constantly (wordOf (fold 64 start step t)) (spanOf t)) (refusal 0 0) ≡ constantly value whole
+      → SaysOf s start step (constantly value whole)
+  constant-says {t} {whole = whole} h true e same =
+      constantly-so s start step (verdict-accepted s h) {whole = whole} (shaped (fold 64 start step t) .constantly e ∙ ap constant (cc)) (cc)
   constant-says h false e same = absurd (true≢false cc)
 
   found-says : (e : Expected) (v : Verdict) → verdict s ≡ v → foundOf start step e v ≡ e → SaysOf s start step e
@@ -100,8 +101,8 @@ module _ (s : List ℕ) (start step : ℕ) where
   found-says (refusal n p) (accepted t) h e = absurd (true≢false cc)
   found-says (folds rows cost values) (refused m q) h e = absurd (true≢false cc)
   found-says (folds rows cost values) (accepted t) h e = folds-so s start step (verdict-accepted s h) (cc) (cc) (cc)
-  found-says (constantly value) (refused m q) h e = absurd (true≢false cc)
-  found-says (constantly value) (accepted t) h e = constant-says h _ refl e
+  found-says (constantly value whole) (refused m q) h e = absurd (true≢false cc)
+  found-says (constantly value whole) (accepted t) h e = constant-says h _ refl e
   found-says (fills budget room points spent left) (refused m q) h e = absurd (true≢false cc)
   found-says (fills budget room points spent left) (accepted t) h e = fills-so s start step (verdict-accepted s h) (cc) (cc) (cc)
 

@@ -6,7 +6,7 @@ use Prim.Native.Nat.{ℕ, _+_, _%_, _^_, _≤_, _<_}
 use lib.ListN.{length, getD, take, replicate}
 use Rattle.formula.specs.Words.{mostNodes}
 use Rattle.word.specs.Word as Word
-use Rattle.formula.specs.Tree.{Tree, number, literalPower, raise, nodes, holdsX}
+use Rattle.formula.specs.Tree.{Span, Tree, number, literalPower, raise, nodes, holdsX}
 use Rattle.formula.specs.Grammar.{Formula}
 use Rattle.formula.specs.Value.{valueFor}
 use Rattle.formula.specs.Refusals.{TooDeep, Part}
@@ -22,10 +22,10 @@ pub record Allowed (s : List ℕ) (t : Tree) : Type 0 where
   pub grammar : Formula s t
   pub bytes : length s ≤ 1024
   pub brackets : (p : ℕ) → TooDeep s p → ⊥
-  pub numbers : (p v : ℕ) → Part (number p v) t → v < 2 ^ 64
-  pub exponents : (a : Tree) (p n : ℕ) → Part (literalPower a p n) t → n ≤ 64
+  pub numbers : (k : Span) (p v : ℕ) → Part (number k p v) t → v < 2 ^ 64
+  pub exponents : (k : Span) (a : Tree) (p n : ℕ) → Part (literalPower k a p n) t → n ≤ 64
   pub size : nodes t ≤ mostNodes
-  pub bases : (a b : Tree) (p : ℕ) → Part (raise a p b) t → (holdsX a ≡ false) × (valueFor 64 0 a % 2 ≡ 1)
+  pub bases : (k : Span) (a b : Tree) (p : ℕ) → Part (raise k a p b) t → (holdsX a ≡ false) × (valueFor 64 0 a % 2 ≡ 1)
 
 -- The value at index i of a chain that is given as words and a length: words past the length are not read.
 abbrev pub valueOf : List ℕ → ℕ → ℕ → ℕ

@@ -8,7 +8,7 @@ use lib.ListN.{length, getD, drop, replicate}
 use Rattle.plan.specs.Measures.{planLength, rowLength, rowsLength}
 use Rattle.chain.specs.Coefficients.{tabulated}
 use Rattle.formula.specs.Bytes.{bytes}
-use Rattle.formula.specs.Tree.{Tree}
+use Rattle.formula.specs.Tree.{Span, span, Tree, spanOf}
 use Rattle.formula.specs.Refusals.{Refused, Accepted}
 use Rattle.formula.specs.Value.{directValue}
 use Rattle.plan.specs.Row.{Row}
@@ -24,10 +24,10 @@ use Rattle.fold.specs.Compiling.{Compiling}
 pub data Expected : Type 0 where
   -- A refusal's number and place.
   refusal : (number place : ℕ) → Expected
-  -- The rows of the plan, their cost, and the values at the first indices.
+  -- The rows of the plan, with their spans, their cost, and the values at the first indices.
   folds : (rows : List Row) (cost : ℕ) (values : List ℕ) → Expected
-  -- One row, this constant, which costs nothing, and its value at every index.
-  constantly : (value : ℕ) → Expected
+  -- One row, this constant with this span, which costs nothing, and its value at every index.
+  constantly : (value : ℕ) (whole : Span) → Expected
   -- The plan filled with that budget into a table of that many words: the points, the budget spent, and the rows of the plan left.
   fills : (budget room points spent : ℕ) (left : List Row) → Expected
 
@@ -51,21 +51,21 @@ anywhere text expected = record { text = bytes text; grid = anyGrid; expected = 
 abbrev pub plainly : String → Expected → Case
 plainly text expected = on text 0 1 expected
 
--- The rows of 01's table, by their kind.
-abbrev pub constant : ℕ → Row
-constant c = rowWords 0 0 0 (c ∷ [])
+-- The rows of 01's table, by their kind; the span last, "two more words at its end" (request Five).
+abbrev pub constant : ℕ → Span → Row
+constant c whole = rowWords 0 0 0 (c ∷ []) whole
 
-abbrev pub sumChain : List ℕ → Row
-sumChain f = rowWords 1 (length f - 1) 0 f
+abbrev pub sumChain : List ℕ → Span → Row
+sumChain f whole = rowWords 1 (length f - 1) 0 f whole
 
-abbrev pub productChain : List ℕ → Row
-productChain f = rowWords 2 (length f - 1) 0 f
+abbrev pub productChain : List ℕ → Span → Row
+productChain f whole = rowWords 2 (length f - 1) 0 f whole
 
-abbrev pub literalPower : (row n : ℕ) → Row
-literalPower row n = rowWords 7 row n []
+abbrev pub literalPower : (row n : ℕ) → Span → Row
+literalPower row n whole = rowWords 7 row n [] whole
 
-abbrev pub raise : (base exponent : ℕ) → Row
-raise base exponent = rowWords 8 base exponent []
+abbrev pub raise : (base exponent : ℕ) → Span → Row
+raise base exponent whole = rowWords 8 base exponent [] whole
 
 -- One row.
 abbrev pub alone : Row → List Row
@@ -81,31 +81,32 @@ chainOfSixteenth =
 unfoldable pub starred : List Case
 starred =
     -- "x^3: chain 0,1,6,6. Budget 15, table of 10: 3 points, 12 spent, plan 27,37,24,6."
-    plainly "x^3" (folds (alone (sumChain (0 ∷ 1 ∷ 6 ∷ 6 ∷ []))) 3 (0 ∷ 1 ∷ 8 ∷ 27 ∷ []))
-    ∷ plainly "x^3" (fills 15 10 3 12 (alone (sumChain (27 ∷ 37 ∷ 24 ∷ 6 ∷ []))))
+    plainly "x^3" (folds (alone (sumChain (0 ∷ 1 ∷ 6 ∷ 6 ∷ []) (span 0 3))) 3 (0 ∷ 1 ∷ 8 ∷ 27 ∷ []))
+    ∷ plainly "x^3" (fills 15 10 3 12 (alone (sumChain (27 ∷ 37 ∷ 24 ∷ 6 ∷ []) (span 0 3))))
     -- "3*x+1, start 5, step 2: chain 16,6."
-    ∷ on "3*x+1" 5 2 (folds (alone (sumChain (16 ∷ 6 ∷ []))) 1 (16 ∷ 22 ∷ 28 ∷ []))
+    ∷ on "3*x+1" 5 2 (folds (alone (sumChain (16 ∷ 6 ∷ []) (span 0 5))) 1 (16 ∷ 22 ∷ 28 ∷ []))
     -- "x*x-x^2+7, any grid: constant 7."
-    ∷ anywhere "x*x-x^2+7" (constantly 7)
+    ∷ anywhere "x*x-x^2+7" (constantly 7 (span 0 9))
     -- "x^2, step 2^32: constant 0."
-    ∷ on "x^2" 0 (2 ^ 32) (constantly 0)
+    ∷ on "x^2" 0 (2 ^ 32) (constantly 0 (span 0 3))
     -- "x and x^2+x, step 2^63: both 0,2^63."
-    ∷ on "x" 0 (2 ^ 63) (folds (alone (sumChain (0 ∷ (2 ^ 63) ∷ []))) 1 (0 ∷ (2 ^ 63) ∷ 0 ∷ []))
-    ∷ on "x^2+x" 0 (2 ^ 63) (folds (alone (sumChain (0 ∷ (2 ^ 63) ∷ []))) 1 (0 ∷ (2 ^ 63) ∷ 0 ∷ []))
+    ∷ on "x" 0 (2 ^ 63) (folds (alone (sumChain (0 ∷ (2 ^ 63) ∷ []) (span 0 1))) 1 (0 ∷ (2 ^ 63) ∷ 0 ∷ []))
+    ∷ on "x^2+x" 0 (2 ^ 63) (folds (alone (sumChain (0 ∷ (2 ^ 63) ∷ []) (span 0 5))) 1 (0 ∷ (2 ^ 63) ∷ 0 ∷ []))
     -- "-x^2: chain 0, 2^64 - 1, 2^64 - 2."
-    ∷ plainly "-x^2" (folds (alone (sumChain (0 ∷ (2 ^ 64 - 1) ∷ (2 ^ 64 - 2) ∷ []))) 2 (0 ∷ (2 ^ 64 - 1) ∷ (2 ^ 64 - 4) ∷ []))
+    ∷ plainly "-x^2" (folds (alone (sumChain (0 ∷ (2 ^ 64 - 1) ∷ (2 ^ 64 - 2) ∷ []) (span 0 4))) 2 (0 ∷ (2 ^ 64 - 1) ∷ (2 ^ 64 - 4) ∷ []))
     -- "3^(x): product chain 1,3."
-    ∷ plainly "3^(x)" (folds (alone (productChain (1 ∷ 3 ∷ []))) 1 (1 ∷ 3 ∷ 9 ∷ []))
+    ∷ plainly "3^(x)" (folds (alone (productChain (1 ∷ 3 ∷ []) (span 0 5))) 1 (1 ∷ 3 ∷ 9 ∷ []))
     -- "3^(3^(x)): three rows, cost 129, values 3, 27, 19683, 7625597484987."
-    ∷ plainly "3^(3^(x))" (folds (constant 3 ∷ productChain (1 ∷ 3 ∷ []) ∷ raise 0 1 ∷ []) 129 (3 ∷ 27 ∷ 19683 ∷ 7625597484987 ∷ []))
+    ∷ plainly "3^(3^(x))"
+    (folds (constant 3 (span 0 1) ∷ productChain (1 ∷ 3 ∷ []) (span 3 8) ∷ raise 0 1 (span 0 9) ∷ []) 129 (3 ∷ 27 ∷ 19683 ∷ 7625597484987 ∷ []))
     -- "0^0 is 1; 2^3 is 8; 2^(3) is refused 8, place 1; so is x^(2)."
-    ∷ plainly "0^0" (constantly 1)
-    ∷ plainly "2^3" (constantly 8)
+    ∷ plainly "0^0" (constantly 1 (span 0 3))
+    ∷ plainly "2^3" (constantly 8 (span 0 3))
     ∷ plainly "2^(3)" (refusal 8 1)
     ∷ plainly "x^(2)" (refusal 8 1)
     -- "x^17: two rows, cost 17. x^16: one chain, last element 20922789888000."
-    ∷ plainly "x^17" (folds (sumChain (0 ∷ 1 ∷ []) ∷ literalPower 0 17 ∷ []) 17 (0 ∷ 1 ∷ 131072 ∷ []))
-    ∷ plainly "x^16" (folds (alone (sumChain chainOfSixteenth)) 16 (0 ∷ 1 ∷ 65536 ∷ []))
+    ∷ plainly "x^17" (folds (sumChain (0 ∷ 1 ∷ []) (span 0 1) ∷ literalPower 0 17 (span 0 4) ∷ []) 17 (0 ∷ 1 ∷ 131072 ∷ []))
+    ∷ plainly "x^16" (folds (alone (sumChain chainOfSixteenth (span 0 4))) 16 (0 ∷ 1 ∷ 65536 ∷ []))
     -- `"" place 0, "01" place 1, "1-" place 2, "x^2^3" place 3, all refused 4.`
     ∷ plainly "" (refusal 4 0)
     ∷ plainly "01" (refusal 4 1)
@@ -118,11 +119,11 @@ abbrev pub caseAt : ℕ → Case
 caseAt i = getD starred i (plainly "" (refusal 4 0))
 
 -- ---- what a case says
--- The 2,561 words of a plan of these rows.
+-- The 2,817 words of a plan of these rows.
 abbrev pub planOf : List Row → List ℕ
 planOf rows = length rows ∷ wordsOf rows ++ replicate (rowsLength - rowLength * length rows) 0
 
--- What compiling comes to by its contract, for every lent plan of 2,561 words or more: this answer and these words, and no others.
+-- What compiling comes to by its contract, for every lent plan of 2,817 words or more: this answer and these words, and no others.
 pub record Compiles (s : List ℕ) (start step : ℕ) (answer : CompileAnswer) (left : List ℕ → List ℕ) : Type 0 where
   pub conforms : (lent : List ℕ) → planLength ≤ length lent → Compiling 64 s start step lent answer (left lent)
   pub unique : (lent : List ℕ) → planLength ≤ length lent → {r : CompileAnswer} {q : List ℕ} → Compiling 64 s start step lent r q
@@ -137,7 +138,7 @@ pub record RefusedSo (s : List ℕ) (start step number place : ℕ) : Type 0 whe
 pub record FoldsSo (s : List ℕ) (start step : ℕ) (rows : List Row) (cost : ℕ) (values : List ℕ) : Type 0 where
   pub tree : Tree
   pub accepted : Accepted 64 s tree
-  pub laid : planWords (fold 64 start step tree) ≡ planOf rows
+  pub laid : planWords (spanOf tree) (fold 64 start step tree) ≡ planOf rows
   pub compiles : Compiles s start step (record { number = 0; place = 0 }) (λ lent. planOf rows ++ drop planLength lent)
   -- The plan, whatever words follow it.
   pub has-rows : (rest : List ℕ) → Plan.rows (planOf rows ++ rest) ≡ rows
@@ -164,7 +165,7 @@ pub record FillsSo (s : List ℕ) (start step budget room points spent : ℕ) (l
 abbrev pub SaysOf : (s : List ℕ) (start step : ℕ) → Expected → Type 0
 SaysOf s start step (refusal number place) = RefusedSo s start step number place
 SaysOf s start step (folds rows cost values) = FoldsSo s start step rows cost values
-SaysOf s start step (constantly value) = (n : ℕ) → FoldsSo s start step (alone (constant value)) 0 (replicate n value)
+SaysOf s start step (constantly value whole) = (n : ℕ) → FoldsSo s start step (alone (constant value whole)) 0 (replicate n value)
 SaysOf s start step (fills budget room points spent left) = FillsSo s start step budget room points spent left
 
 -- "any grid": whatever the start and the step.

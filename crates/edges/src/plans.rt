@@ -7,12 +7,15 @@ use edges_text::words;
 use plan::MOST_ROWS;
 use plan::PLAN_WORDS;
 use plan::ROW_WORDS;
+use plan::SPAN_START;
 ghost use Prim.Native.Nat.{_≤_};
 ghost use lib.ListN.{length};
 ghost use Rattle.plan.specs.Measures.{mostRows};
 
-// The place behind row 0.
-const ROW_END: usize = 1 + ROW_WORDS;
+// In row 0: the place behind its elements, and that of its end byte.
+const ELEMENTS_END: usize = 1 + SPAN_START;
+
+const END_BYTE: usize = ELEMENTS_END + 1;
 
 pub fn cost(plan: &[u64]) -> plan::CostAnswer {
     plan_costs::cost(plan)
@@ -26,11 +29,12 @@ pub fn compiled(formula: &[u8], start: u64, step: u64, plan: &mut [u64]) -> fold
     compile::compile(formula, start, step, plan)
 }
 
-// The next row.
+// The next row. Its text is the first byte, unless the token has a word for its end.
 fn add(token: &[u8], plan: &mut [u64]) {
     let r = words::word_at(plan, 0);
-    let start = std::num::wrapping_add_u64(word::times(ROW_WORDS as u64, r), 1);
-    words::put_list(token, r, plan, start as usize);
+    let before = word::times(ROW_WORDS as u64, r) as usize;
+    words::put(plan, std::num::wrapping_add_usize(before, END_BYTE), 1);
+    words::put_list(token, r, plan, std::num::wrapping_add_usize(before, 1));
     words::put(plan, 0, std::num::wrapping_add_u64(r, 1));
 }
 
@@ -40,7 +44,7 @@ fn plant(token: &[u8], plan: &mut [u64]) {
     words::put_list(text::after(token, b','), 0, plan, start);
 }
 
-// The number of rows, and so many of them. A row's words that are 0 up to its end are left out, but for its kind.
+// The number of rows, and so many of them, without their spans. A row's words that are 0 up to its elements' end are left out, but for its kind.
 fn print_rows(plan: &[u64], most: usize)
     requires { ⌜ most ≤ mostRows ⌝ }
 {
@@ -55,11 +59,29 @@ fn print_rows(plan: &[u64], most: usize)
         if place == 0 {
             print::label(print::BLANK);
             print::number(words::word_at(plan, 1 + i));
-        } else if !words::is_painted(plan, 1 + i, ROW_END + i - place, 0) {
+        } else if !words::is_painted(plan, 1 + i, ELEMENTS_END + i - place, 0) {
             print::label(print::COMMA);
             print::number(words::word_at(plan, 1 + i));
         }
         i += 1;
+    }
+}
+
+// first..end of every row; none where more rows are counted than a plan has.
+fn print_spans(plan: &[u64]) {
+    let count = words::word_at(plan, 0) as usize;
+    print::text(b"\tspans");
+    if MOST_ROWS < count {
+        return;
+    }
+    let mut r = 0;
+    while r < count {
+        let end = END_BYTE + ROW_WORDS * r;
+        print::label(print::BLANK);
+        print::number(words::word_at(plan, end - 1));
+        print::text(b"..");
+        print::number(words::word_at(plan, end));
+        r += 1;
     }
 }
 
@@ -131,10 +153,11 @@ fn compile_on(formula: &[u8], start: u64, step: u64, held: usize, plan: &mut [u6
 }
 
 // Does what a token says, and answers how many words of the plan are lent from then on.
-// 1,3,0,0,1,6,6 is the next row: its kind, a, b and elements. The words after them stay 0, and word 0 counts the row. ~1 in it is the
-// number of the row before it. @40,7,8 puts 7 and 8 in the words from 40 on. p begins a plan with the rows 0,0,0,3 and 1,1,0,5,2.
-// #2560 lends 2,560 words; 2,561 are lent where nothing is said. t10,15 asks for soundness and cost and fills a table of 10 words on a
-// budget of 15, which is 999 where it is left out; e10,15 fills with era count. =x^3 compiles a formula, and g5,2:x^3 does on a grid with start 5 and step 2.
+// 1,3,0,0,1,6,6 is the next row: its kind, a, b and elements. The words after them stay 0 but for the span, which is 0..1, and word 0 counts
+// the row. ~1 in it is the number of the row before it. @40,7,8 puts 7 and 8 in the words from 40 on. p begins a plan with the rows 0,0,0,3
+// and 1,1,0,5,2. #2816 lends 2,816 words; 2,817 are lent where nothing is said. t10,15 asks for soundness and cost and fills a table of 10
+// words on a budget of 15, which is 999 where it is left out; e10,15 fills with era count. s prints the spans of the rows. =x^3 compiles a
+// formula, and g5,2:x^3 does on a grid with start 5 and step 2.
 fn step(token: &[u8], lent: usize, plan: &mut [u64], table: &mut [u64]) -> usize {
     let held = words::at_most(lent, plan.len());
     match formula_digits::byte_at(token, 0) {
@@ -144,10 +167,11 @@ fn step(token: &[u8], lent: usize, plan: &mut [u64], table: &mut [u64]) -> usize
         b'@' => plant(token, plan),
         b't' => fill(token, held, plan, table),
         b'e' => eras::fill(token, held, plan, table),
-        b'p' => plant(
-            b"0,2,0,0,0,3,0,0,0,0,0,0,0,0,0,0,0,0,0,0,0,0,1,1,0,5,2",
-            plan,
-        ),
+        b's' => print_spans(plan),
+        b'p' => {
+            add(b"0,0,0,3", plan);
+            add(b"1,1,0,5,2", plan);
+        }
         b'=' => compile_on(text::after(token, b'='), 0, 1, held, plan),
         b'g' => {
             let grid = text::before(token, b':');

@@ -18,15 +18,15 @@ use Rattle.chain.specs.ProductChain as ProductChain
 use Rattle.chain.proofs.Trimming.{length-without-trailing}
 use Rattle.chain.proofs.Shifting.{length-shift}
 use Rattle.formula.specs.Tree as Tree
-use Rattle.formula.specs.Tree.{Tree, holdsX, nodes}
+use Rattle.formula.specs.Tree.{Span, Tree, holdsX, nodes}
 use Rattle.formula.specs.Value.{valueFor}
 use Rattle.formula.specs.Refusals.{Accepted, Part, itself, sum-left, sum-right, difference-left, difference-right, product-left, product-right}
 use Rattle.formula.specs.Refusals.{under-minus, under-power, in-base, in-exponent}
 use Rattle.formula_scan.proofs.Answers.{accepted-fits, accepted-base}
 use Rattle.formula_scan.proofs.Parity.{OddBases, neither}
-use Rattle.fold.specs.Folded.{Folded, constant, sumChain, productChain, sumRow, differenceRow, productRow, minusRow, powerRow, raiseRow}
+use Rattle.fold.specs.Folded.{Spans, Folded, constant, sumChain, productChain, sumRow, differenceRow, productRow, minusRow, powerRow, raiseRow}
 use Rattle.fold.specs.Folded.{isConstant, isSumChain, elements, ofSum, ofProduct, trimmedSum, trimmedProduct}
-use Rattle.fold.specs.Folding.{wordOf, lengthOf, foldSum, foldMinus, foldDifference, foldProduct, foldPower, foldRaise, fold}
+use Rattle.fold.specs.Folding.{wordOf, lengthOf, foldSum, foldMinus, foldDifference, foldProduct, foldPower, foldRaise, operands, fold}
 use Rattle.fold.specs.Layout.{rowCount}
 use Rattle.fold.proofs.Shape.{Fits, OddBase, WellFormed}
 use Rattle.fold.proofs.Tests.{shaped}
@@ -202,24 +202,24 @@ module _ (w : ℕ) where
   elements-below (constant c) h = below-cons (pow-pos w) c [] h (below-none (pow-pos w))
   elements-below (sumChain f) h = h .words
   elements-below (productChain f) h = h .words
-  elements-below (sumRow a b) h = below-none (pow-pos w)
-  elements-below (differenceRow a b) h = below-none (pow-pos w)
-  elements-below (productRow a b) h = below-none (pow-pos w)
-  elements-below (minusRow a) h = below-none (pow-pos w)
-  elements-below (powerRow a n) h = below-none (pow-pos w)
-  elements-below (raiseRow a b) h = below-none (pow-pos w)
+  elements-below (sumRow s a b) h = below-none (pow-pos w)
+  elements-below (differenceRow s a b) h = below-none (pow-pos w)
+  elements-below (productRow s a b) h = below-none (pow-pos w)
+  elements-below (minusRow s a) h = below-none (pow-pos w)
+  elements-below (powerRow s a n) h = below-none (pow-pos w)
+  elements-below (raiseRow s a b) h = below-none (pow-pos w)
 
   pub elements-most : (a : Folded) → WellFormed w a → length (elements a) ≤ 17
   unfolding WellFormed
   elements-most (constant c) h = omega arith
   elements-most (sumChain f) h = h .most
   elements-most (productChain f) h = h .most
-  elements-most (sumRow a b) h = omega arith
-  elements-most (differenceRow a b) h = omega arith
-  elements-most (productRow a b) h = omega arith
-  elements-most (minusRow a) h = omega arith
-  elements-most (powerRow a n) h = omega arith
-  elements-most (raiseRow a b) h = omega arith
+  elements-most (sumRow s a b) h = omega arith
+  elements-most (differenceRow s a b) h = omega arith
+  elements-most (productRow s a b) h = omega arith
+  elements-most (minusRow s a) h = omega arith
+  elements-most (powerRow s a n) h = omega arith
+  elements-most (raiseRow s a b) h = omega arith
 
   sum-chain-fits : (a : Folded) → isSumChain a ≡ true → WellFormed w a → Fits w (elements a)
   unfolding WellFormed
@@ -259,16 +259,16 @@ module _ (w : ℕ) where
 
 -- ---- each operator keeps trees well formed
 module _ (w : ℕ) (pos : 0 < w) where
-  pub sum-formed : (a b : Folded) → WellFormed w a → WellFormed w b → WellFormed w (foldSum w a b)
+  pub sum-formed : (s : Spans) (a b : Folded) → WellFormed w a → WellFormed w b → WellFormed w (foldSum w s a b)
   unfolding WellFormed
-  sum-formed a b h k =
-      sum-rules (WellFormed w) w a b (λ e. word-formed w _)
+  sum-formed s a b h k =
+      sum-rules (WellFormed w) w s a b (λ e. word-formed w _)
       (λ e. sum-words-formed w (SumChain.sum (elements a) (elements b)) (joined-most w _+_ 0 a b h k)) (λ e. h) (λ e. k) (h, k)
 
-  pub minus-formed : (a : Folded) → WellFormed w a → WellFormed w (foldMinus w a)
+  pub minus-formed : (s : Span) (a : Folded) → WellFormed w a → WellFormed w (foldMinus w s a)
   unfolding WellFormed
-  minus-formed a h =
-      minus-rules (WellFormed w) w a (λ e. word-formed w _)
+  minus-formed s a h =
+      minus-rules (WellFormed w) w s a (λ e. word-formed w _)
       (λ e. trimmed-sum-formed w (map (λ f. Word.negation w f) (elements a)) (negations-below w (elements a)) (map-most w (λ f. Word.negation w f) a h))
       (λ e. trimmed-product-formed w (Word.negation w (wordOf a) ∷ rest (elements a)) pos first (first-most w a h)) h
     where
@@ -277,18 +277,18 @@ module _ (w : ℕ) (pos : 0 < w) where
           below-cons (pow-pos w) (Word.negation w (wordOf a)) (rest (elements a)) (word-fits w _)
           (below-rest (pow-pos w) (elements a) (elements-below w a h))
 
-  pub difference-formed : (a b : Folded) → WellFormed w a → WellFormed w b → WellFormed w (foldDifference w a b)
+  pub difference-formed : (s : Spans) (a b : Folded) → WellFormed w a → WellFormed w b → WellFormed w (foldDifference w s a b)
   unfolding WellFormed
-  difference-formed a b h k =
-      difference-rules (WellFormed w) w a b (λ e. word-formed w _)
+  difference-formed s a b h k =
+      difference-rules (WellFormed w) w s a b (λ e. word-formed w _)
       (λ e. trimmed-sum-formed w (SumChain.difference w (elements a) (elements b)) (differences-below w (elements a) (elements b))
       (joined-most w (Word.difference w) 0 a b h k))
-      (λ e. h) (λ e. minus-formed b k) (h, k)
+      (λ e. h) (λ e. minus-formed (s .right) b k) (h, k)
 
-  pub product-formed : (a b : Folded) → WellFormed w a → WellFormed w b → WellFormed w (foldProduct w a b)
+  pub product-formed : (s : Spans) (a b : Folded) → WellFormed w a → WellFormed w b → WellFormed w (foldProduct w s a b)
   unfolding WellFormed
-  product-formed a b h k =
-      product-rules (WellFormed w) w a b (λ e. word-formed w _) (λ e. k) (λ e. h) (λ e. pow-pos w)
+  product-formed s a b h k =
+      product-rules (WellFormed w) w s a b (λ e. word-formed w _) (λ e. k) (λ e. h) (λ e. pow-pos w)
       (λ e. scaled-formed (wordOf a) b k) (λ e. scaled-formed (wordOf b) a h) (λ e. first-formed (wordOf a) b k) (λ e. first-formed (wordOf b) a h)
       (λ e. product-words-formed w (ProductChain.jointProduct (elements a) (elements b)) pos (joined-most w _*_ 1 a b h k))
       (λ e. sum-words-formed w (SumChain.product (elements a) (elements b)) (product-most w a b h k e)) (h, k)
@@ -299,10 +299,10 @@ module _ (w : ℕ) (pos : 0 < w) where
       first-formed : (c : ℕ) (d : Folded) → WellFormed w d → WellFormed w (trimmedProduct (words w (ProductChain.scaledFirst c (elements d))))
       first-formed c d h = product-words-formed w (ProductChain.scaledFirst c (elements d)) pos (first-most w d h)
 
-  pub power-formed : (a : Folded) (n : ℕ) → n ≤ 64 → WellFormed w a → WellFormed w (foldPower w a n)
+  pub power-formed : (s : Span) (a : Folded) (n : ℕ) → n ≤ 64 → WellFormed w a → WellFormed w (foldPower w s a n)
   unfolding WellFormed
-  power-formed a n few h =
-      power-rules (WellFormed w) w a n (λ e. word-formed w _) (λ e. pow-lt pos) (λ e. h)
+  power-formed s a n few h =
+      power-rules (WellFormed w) w s a n (λ e. word-formed w _) (λ e. pow-lt pos) (λ e. h)
       (λ e. sum-words-formed w (SumChain.power (elements a) n) (power-most w a n h e))
       (λ e. product-words-formed w (ProductChain.powerOfEach (elements a) n) pos (map-most w (λ x. x ^ n) a h))
       (λ some more. (least (eqb-false n 0 some) (eqb-false n 1 more), few, h))
@@ -310,36 +310,36 @@ module _ (w : ℕ) (pos : 0 < w) where
       least : (n ≡ 0 → ⊥) → (n ≡ 1 → ⊥) → 2 ≤ n
       least p q = omega arith
 
-  pub raise-formed : (a b : Folded) → OddBase a → WellFormed w a → WellFormed w b → WellFormed w (foldRaise w a b)
+  pub raise-formed : (s : Spans) (a b : Folded) → OddBase a → WellFormed w a → WellFormed w b → WellFormed w (foldRaise w s a b)
   unfolding WellFormed
-  raise-formed a b base h k =
-      raise-rules (WellFormed w) w a b (λ e. word-formed w _)
+  raise-formed s a b base h k =
+      raise-rules (WellFormed w) w s a b (λ e. word-formed w _)
       (λ e. product-words-formed w (ProductChain.raised (wordOf a) (elements b)) pos (map-most w (λ x. wordOf a ^ x) b k)) (base, h, k)
 
 -- ---- a tree without x folds to its value
 fold-without-x : (w start step x : ℕ) (t : Tree) → holdsX t ≡ false → fold w start step t ≡ constant (valueFor w x t)
 unfolding holdsX valueFor fold foldSum foldMinus foldDifference foldProduct foldPower foldRaise
-fold-without-x w start step x (Tree.number p v) none = refl
-fold-without-x w start step x Tree.variable none = absurd (true≢false none)
-fold-without-x w start step x (Tree.sum a b) none =
+fold-without-x w start step x (Tree.number s p v) none = refl
+fold-without-x w start step x (Tree.variable s) none = absurd (true≢false none)
+fold-without-x w start step x (Tree.sum s a b) none =
     let h = neither (holdsX a) (holdsX b) none in
-    ap₂ (foldSum w) (fold-without-x w start step x a (h .0)) (fold-without-x w start step x b (h .1))
-fold-without-x w start step x (Tree.difference a b) none =
+    ap₂ (foldSum w (operands a b)) (fold-without-x w start step x a (h .0)) (fold-without-x w start step x b (h .1))
+fold-without-x w start step x (Tree.difference s a b) none =
     let h = neither (holdsX a) (holdsX b) none in
-    ap₂ (foldDifference w) (fold-without-x w start step x a (h .0)) (fold-without-x w start step x b (h .1))
-fold-without-x w start step x (Tree.product a b) none =
+    ap₂ (foldDifference w (operands a b)) (fold-without-x w start step x a (h .0)) (fold-without-x w start step x b (h .1))
+fold-without-x w start step x (Tree.product s a b) none =
     let h = neither (holdsX a) (holdsX b) none in
-    ap₂ (foldProduct w) (fold-without-x w start step x a (h .0)) (fold-without-x w start step x b (h .1))
-fold-without-x w start step x (Tree.minus a) none = ap (foldMinus w) (fold-without-x w start step x a none)
-fold-without-x w start step x (Tree.literalPower a p n) none = ap (λ f. foldPower w f n) (fold-without-x w start step x a none)
-fold-without-x w start step x (Tree.raise a p b) none =
+    ap₂ (foldProduct w (operands a b)) (fold-without-x w start step x a (h .0)) (fold-without-x w start step x b (h .1))
+fold-without-x w start step x (Tree.minus s a) none = ap (foldMinus w (Tree.spanOf a)) (fold-without-x w start step x a none)
+fold-without-x w start step x (Tree.literalPower s a p n) none = ap (λ f. foldPower w (Tree.spanOf a) f n) (fold-without-x w start step x a none)
+fold-without-x w start step x (Tree.raise s a p b) none =
     let h = neither (holdsX a) (holdsX b) none in
-    ap₂ (foldRaise w) (fold-without-x w start step x a (h .0)) (fold-without-x w start step x b (h .1))
+    ap₂ (foldRaise w (operands a b)) (fold-without-x w start step x a (h .0)) (fold-without-x w start step x b (h .1))
 
 -- So the base of a raise folds to an odd constant.
-pub fold-base : (w start step : ℕ) (a b : Tree) (p : ℕ) → OddBases w (Tree.raise a p b) → OddBase (fold w start step a)
-fold-base w start step a b p good =
-    let (none, odd) = good a b p itself in
+pub fold-base : (w start step : ℕ) (s : Span) (a b : Tree) (p : ℕ) → OddBases w (Tree.raise s a p b) → OddBase (fold w start step a)
+fold-base w start step s a b p good =
+    let (none, odd) = good s a b p itself in
     let same = fold-without-x w start step 0 a none in
     record { known = ap isConstant same; odd = ap (λ c. wordOf c % 2) same ∙ odd }
 
@@ -372,27 +372,27 @@ one-product : (n : ℕ) (f : List ℕ) → AtMost (n + 1) (trimmedProduct f)
 one-product n f = omega (arith, trimmed-product-rows f)
 
 module _ (w : ℕ) where
-  pub sum-rows : (a b : Folded) → rowCount (foldSum w a b) ≤ rowCount a + rowCount b + 1
+  pub sum-rows : (s : Spans) (a b : Folded) → rowCount (foldSum w s a b) ≤ rowCount a + rowCount b + 1
   unfolding rowCount
-  sum-rows a b =
-      sum-rules (AtMost _) w a b (λ e. omega arith) (λ e. one-sum (rowCount a + rowCount b) _) (λ e. omega arith) (λ e. omega arith) (omega arith)
+  sum-rows s a b =
+      sum-rules (AtMost _) w s a b (λ e. omega arith) (λ e. one-sum (rowCount a + rowCount b) _) (λ e. omega arith) (λ e. omega arith) (omega arith)
 
-  pub minus-rows : (a : Folded) → rowCount (foldMinus w a) ≤ rowCount a + 1
+  pub minus-rows : (s : Span) (a : Folded) → rowCount (foldMinus w s a) ≤ rowCount a + 1
   unfolding rowCount
-  minus-rows a =
-      minus-rules (AtMost _) w a (λ e. omega arith) (λ e. one-sum (rowCount a) _)
+  minus-rows s a =
+      minus-rules (AtMost _) w s a (λ e. omega arith) (λ e. one-sum (rowCount a) _)
       (λ e. one-product (rowCount a) (Word.negation w (wordOf a) ∷ rest (elements a))) (omega arith)
 
-  pub difference-rows : (a b : Folded) → rowCount (foldDifference w a b) ≤ rowCount a + rowCount b + 1
+  pub difference-rows : (s : Spans) (a b : Folded) → rowCount (foldDifference w s a b) ≤ rowCount a + rowCount b + 1
   unfolding rowCount
-  difference-rows a b =
-      difference-rules (AtMost _) w a b (λ e. omega arith) (λ e. one-sum (rowCount a + rowCount b) _) (λ e. omega arith)
-      (λ e. omega (arith, minus-rows b)) (omega arith)
+  difference-rows s a b =
+      difference-rules (AtMost _) w s a b (λ e. omega arith) (λ e. one-sum (rowCount a + rowCount b) _) (λ e. omega arith)
+      (λ e. omega (arith, minus-rows (s .right) b)) (omega arith)
 
-  pub product-rows : (a b : Folded) → rowCount (foldProduct w a b) ≤ rowCount a + rowCount b + 1
+  pub product-rows : (s : Spans) (a b : Folded) → rowCount (foldProduct w s a b) ≤ rowCount a + rowCount b + 1
   unfolding rowCount
-  product-rows a b =
-      product-rules (AtMost _) w a b (λ e. omega arith) (λ e. omega arith) (λ e. omega arith) (λ e. omega arith)
+  product-rows s a b =
+      product-rules (AtMost _) w s a b (λ e. omega arith) (λ e. omega arith) (λ e. omega arith) (λ e. omega arith)
       (λ e. one-sum (rowCount a + rowCount b) _) (λ e. one-sum (rowCount a + rowCount b) _)
       (λ e. product-row (ProductChain.scaledFirst (wordOf a) (elements b))) (λ e. product-row (ProductChain.scaledFirst (wordOf b) (elements a)))
       (λ e. product-row (ProductChain.jointProduct (elements a) (elements b))) (λ e. one-sum (rowCount a + rowCount b) _) (omega arith)
@@ -400,42 +400,42 @@ module _ (w : ℕ) where
       product-row : (f : List ℕ) → rowCount (trimmedProduct (words w f)) ≤ rowCount a + rowCount b + 1
       product-row f = one-product (rowCount a + rowCount b) (words w f)
 
-  pub power-rows : (a : Folded) (n : ℕ) → rowCount (foldPower w a n) ≤ rowCount a + 1
+  pub power-rows : (s : Span) (a : Folded) (n : ℕ) → rowCount (foldPower w s a n) ≤ rowCount a + 1
   unfolding rowCount
-  power-rows a n =
-      power-rules (AtMost _) w a n (λ e. omega arith) (λ e. omega arith) (λ e. omega arith) (λ e. one-sum (rowCount a) _)
+  power-rows s a n =
+      power-rules (AtMost _) w s a n (λ e. omega arith) (λ e. omega arith) (λ e. omega arith) (λ e. one-sum (rowCount a) _)
       (λ e. one-product (rowCount a) (words w (ProductChain.powerOfEach (elements a) n))) (λ some more. omega arith)
 
-  pub raise-rows : (a b : Folded) → rowCount (foldRaise w a b) ≤ rowCount a + rowCount b + 1
+  pub raise-rows : (s : Spans) (a b : Folded) → rowCount (foldRaise w s a b) ≤ rowCount a + rowCount b + 1
   unfolding rowCount
-  raise-rows a b =
-      raise-rules (AtMost _) w a b (λ e. omega arith)
+  raise-rows s a b =
+      raise-rules (AtMost _) w s a b (λ e. omega arith)
       (λ e. one-product (rowCount a + rowCount b) (words w (ProductChain.raised (wordOf a) (elements b)))) (omega arith)
 
   pub fold-rows : (start step : ℕ) (t : Tree) → rowCount (fold w start step t) ≤ nodes t
   unfolding fold rowCount nodes
-  fold-rows start step (Tree.number p v) = omega arith
-  fold-rows start step Tree.variable = omega (arith, trimmed-sum-rows (words w (start ∷ step ∷ [])))
-  fold-rows start step (Tree.sum a b) =
-      omega (arith, sum-rows (fold w start step a) (fold w start step b), fold-rows start step a, fold-rows start step b)
-  fold-rows start step (Tree.difference a b) =
-      omega (arith, difference-rows (fold w start step a) (fold w start step b), fold-rows start step a, fold-rows start step b)
-  fold-rows start step (Tree.product a b) =
-      omega (arith, product-rows (fold w start step a) (fold w start step b), fold-rows start step a, fold-rows start step b)
-  fold-rows start step (Tree.minus a) = omega (arith, minus-rows (fold w start step a), fold-rows start step a)
-  fold-rows start step (Tree.literalPower a p n) = omega (arith, power-rows (fold w start step a) n, fold-rows start step a)
-  fold-rows start step (Tree.raise a p b) =
-      omega (arith, raise-rows (fold w start step a) (fold w start step b), fold-rows start step a, fold-rows start step b)
+  fold-rows start step (Tree.number s p v) = omega arith
+  fold-rows start step (Tree.variable s) = omega (arith, trimmed-sum-rows (words w (start ∷ step ∷ [])))
+  fold-rows start step (Tree.sum s a b) =
+      omega (arith, sum-rows (operands a b) (fold w start step a) (fold w start step b), fold-rows start step a, fold-rows start step b)
+  fold-rows start step (Tree.difference s a b) =
+      omega (arith, difference-rows (operands a b) (fold w start step a) (fold w start step b), fold-rows start step a, fold-rows start step b)
+  fold-rows start step (Tree.product s a b) =
+      omega (arith, product-rows (operands a b) (fold w start step a) (fold w start step b), fold-rows start step a, fold-rows start step b)
+  fold-rows start step (Tree.minus s a) = omega (arith, minus-rows (Tree.spanOf a) (fold w start step a), fold-rows start step a)
+  fold-rows start step (Tree.literalPower s a p n) = omega (arith, power-rows (Tree.spanOf a) (fold w start step a) n, fold-rows start step a)
+  fold-rows start step (Tree.raise s a p b) =
+      omega (arith, raise-rows (operands a b) (fold w start step a) (fold w start step b), fold-rows start step a, fold-rows start step b)
 
 -- ---- the whole tree
 -- What folding asks of a tree: literal exponents are at most 64, and each raise has a base without x, of odd value.
 pub record Foldable (w : ℕ) (t : Tree) : Type 0 where
-  pub exponents : (a : Tree) (p n : ℕ) → Part (Tree.literalPower a p n) t → n ≤ 64
+  pub exponents : (s : Span) (a : Tree) (p n : ℕ) → Part (Tree.literalPower s a p n) t → n ≤ 64
   pub bases : OddBases w t
 
 pub foldable-part : {w : ℕ} {a t : Tree} → ((u : Tree) → Part u a → Part u t) → Foldable w t → Foldable w a
 foldable-part inside good =
-    record { exponents = λ a p n k. good .exponents a p n (inside _ k); bases = λ a b p k. good .bases a b p (inside _ k) }
+    record { exponents = λ s a p n k. good .exponents s a p n (inside _ k); bases = λ s a b p k. good .bases s a b p (inside _ k) }
 
 pub accepted-foldable : {w : ℕ} {s : List ℕ} {t : Tree} → Accepted w s t → Foldable w t
 accepted-foldable accepted = record { exponents = accepted-fits accepted .1; bases = accepted-base accepted }
@@ -443,20 +443,20 @@ accepted-foldable accepted = record { exponents = accepted-fits accepted .1; bas
 module _ (w start step : ℕ) (pos : 0 < w) where
   pub fold-formed : (t : Tree) → Foldable w t → WellFormed w (fold w start step t)
   unfolding fold
-  fold-formed (Tree.number p v) good = word-formed w v
-  fold-formed Tree.variable good = sum-words-formed w (start ∷ step ∷ []) (omega arith)
-  fold-formed (Tree.sum a b) good =
-      sum-formed w pos _ _ (fold-formed a (foldable-part (λ u. sum-left) good)) (fold-formed b (foldable-part (λ u. sum-right) good))
-  fold-formed (Tree.difference a b) good =
-      difference-formed w pos _ _
+  fold-formed (Tree.number s p v) good = word-formed w v
+  fold-formed (Tree.variable s) good = sum-words-formed w (start ∷ step ∷ []) (omega arith)
+  fold-formed (Tree.sum s a b) good =
+      sum-formed w pos _ _ _ (fold-formed a (foldable-part (λ u. sum-left) good)) (fold-formed b (foldable-part (λ u. sum-right) good))
+  fold-formed (Tree.difference s a b) good =
+      difference-formed w pos _ _ _
       (fold-formed a (foldable-part (λ u. difference-left) good)) (fold-formed b (foldable-part (λ u. difference-right) good))
-  fold-formed (Tree.product a b) good =
-      product-formed w pos _ _ (fold-formed a (foldable-part (λ u. product-left) good)) (fold-formed b (foldable-part (λ u. product-right) good))
-  fold-formed (Tree.minus a) good = minus-formed w pos _ (fold-formed a (foldable-part (λ u. under-minus) good))
-  fold-formed (Tree.literalPower a p n) good =
-      power-formed w pos _ n (good .exponents a p n itself) (fold-formed a (foldable-part (λ u. under-power) good))
-  fold-formed (Tree.raise a p b) good =
-      raise-formed w pos _ _ (fold-base w start step a b p (good .bases))
+  fold-formed (Tree.product s a b) good =
+      product-formed w pos _ _ _ (fold-formed a (foldable-part (λ u. product-left) good)) (fold-formed b (foldable-part (λ u. product-right) good))
+  fold-formed (Tree.minus s a) good = minus-formed w pos _ _ (fold-formed a (foldable-part (λ u. under-minus) good))
+  fold-formed (Tree.literalPower s a p n) good =
+      power-formed w pos _ _ n (good .exponents s a p n itself) (fold-formed a (foldable-part (λ u. under-power) good))
+  fold-formed (Tree.raise s a p b) good =
+      raise-formed w pos _ _ _ (fold-base w start step s a b p (good .bases))
       (fold-formed a (foldable-part (λ u. in-base) good)) (fold-formed b (foldable-part (λ u. in-exponent) good))
 
 -- ---- the folded tree of an accepted formula

@@ -23,11 +23,11 @@ use Rattle.chain.proofs.Trimming.{value-trimmed-sum, value-trimmed-product}
 use Rattle.chain.proofs.SumLaws as SumLaws
 use Rattle.chain.proofs.ProductLaws as ProductLaws
 use Rattle.formula.specs.Tree as Tree
-use Rattle.formula.specs.Tree.{Tree}
+use Rattle.formula.specs.Tree.{Span, Tree}
 use Rattle.formula.specs.Value.{valueFor, directValue}
 use Rattle.formula.specs.Refusals.{Part, sum-left, sum-right, difference-left, difference-right, product-left, product-right}
 use Rattle.formula.specs.Refusals.{under-minus, under-power, in-base, in-exponent}
-use Rattle.fold.specs.Folded.{Folded, constant, sumChain, productChain, sumRow, differenceRow, productRow, minusRow, powerRow, raiseRow}
+use Rattle.fold.specs.Folded.{Spans, Folded, constant, sumChain, productChain, sumRow, differenceRow, productRow, minusRow, powerRow, raiseRow}
 use Rattle.fold.specs.Folded.{isConstant, isSumChain, isProductChain, elements, ofSum, ofProduct, trimmedSum, trimmedProduct, valueAt}
 use Rattle.fold.specs.Folding.{wordOf, is, constants, isSum, lengthOf, foldSum, foldMinus, foldDifference, foldProduct, foldPower, foldRaise, fold}
 use Rattle.fold.proofs.Shape.{OddBase}
@@ -68,12 +68,12 @@ unfolding valueAt
 value-word w (constant c) i = mod-mod _ (2 ^ w)
 value-word w (sumChain f) i = mod-mod _ (2 ^ w)
 value-word w (productChain f) i = mod-mod _ (2 ^ w)
-value-word w (sumRow a b) i = mod-mod _ (2 ^ w)
-value-word w (differenceRow a b) i = mod-mod _ (2 ^ w)
-value-word w (productRow a b) i = mod-mod _ (2 ^ w)
-value-word w (minusRow a) i = mod-mod _ (2 ^ w)
-value-word w (powerRow a n) i = mod-mod _ (2 ^ w)
-value-word w (raiseRow a b) i = mod-mod _ (2 ^ w)
+value-word w (sumRow s a b) i = mod-mod _ (2 ^ w)
+value-word w (differenceRow s a b) i = mod-mod _ (2 ^ w)
+value-word w (productRow s a b) i = mod-mod _ (2 ^ w)
+value-word w (minusRow s a) i = mod-mod _ (2 ^ w)
+value-word w (powerRow s a n) i = mod-mod _ (2 ^ w)
+value-word w (raiseRow s a b) i = mod-mod _ (2 ^ w)
 
 -- The value of an operand that passes a test.
 module _ (w : ℕ) (a : Folded) (i : ℕ) where
@@ -151,10 +151,10 @@ abbrev HasFirst : Folded → Type 0
 HasFirst a = isProductChain a ≡ true → 0 < length (elements a)
 
 -- ---- the rules
-module _ (w : ℕ) (a : Folded) (i : ℕ) where
-  fold-minus-value : HasFirst a → valueAt w (foldMinus w a) i ≡ Word.negation w (valueAt w a i)
+module _ (w : ℕ) (s : Span) (a : Folded) (i : ℕ) where
+  fold-minus-value : HasFirst a → valueAt w (foldMinus w s a) i ≡ Word.negation w (valueAt w a i)
   unfolding valueAt joined
-  fold-minus-value has-first = minus-rules Kept w a worked every first refl
+  fold-minus-value has-first = minus-rules Kept w s a worked every first refl
     where
       Kept : Folded → Type 0
       Kept r = valueAt w r i ≡ Word.negation w (valueAt w a i)
@@ -175,9 +175,9 @@ module _ (w : ℕ) (a : Folded) (i : ℕ) where
           ∙ minus-first-value w (elements a) i (has-first e)
           ∙ negation-word w (productAt (elements a) i) (product-chain-value w a i e)
 
-  fold-power-value : (n : ℕ) → valueAt w (foldPower w a n) i ≡ Word.power w (valueAt w a i) n
+  fold-power-value : (n : ℕ) → valueAt w (foldPower w s a n) i ≡ Word.power w (valueAt w a i) n
   unfolding valueAt
-  fold-power-value n = power-rules Kept w a n worked none once sums each (λ some more. refl)
+  fold-power-value n = power-rules Kept w s a n worked none once sums each (λ some more. refl)
     where
       Kept : Folded → Type 0
       Kept r = valueAt w r i ≡ Word.power w (valueAt w a i) n
@@ -205,10 +205,10 @@ module _ (w : ℕ) (a : Folded) (i : ℕ) where
           ∙ ap (Word.word w) (ProductLaws.value-power-of-each (elements a) n i)
           ∙ power-word w (productAt (elements a) i) (product-chain-value w a i e) n
 
-module _ (w : ℕ) (a b : Folded) (i : ℕ) where
-  fold-sum-value : valueAt w (foldSum w a b) i ≡ Word.sum w (valueAt w a i) (valueAt w b i)
+module _ (w : ℕ) (s : Spans) (a b : Folded) (i : ℕ) where
+  fold-sum-value : valueAt w (foldSum w s a b) i ≡ Word.sum w (valueAt w a i) (valueAt w b i)
   unfolding valueAt
-  fold-sum-value = sum-rules Kept w a b worked sums right-zero left-zero refl
+  fold-sum-value = sum-rules Kept w s a b worked sums right-zero left-zero refl
     where
       Kept : Folded → Type 0
       Kept r = valueAt w r i ≡ Word.sum w (valueAt w a i) (valueAt w b i)
@@ -235,9 +235,9 @@ module _ (w : ℕ) (a b : Folded) (i : ℕ) where
           sym (value-word w b i) ∙ ap (Word.word w) (sym (zero-add (valueAt w b i)))
           ∙ sum-word w 0 (valueAt w b i) (is-value w a i 0 e) (sym (value-word w b i))
 
-  fold-difference-value : HasFirst b → valueAt w (foldDifference w a b) i ≡ Word.difference w (valueAt w a i) (valueAt w b i)
+  fold-difference-value : HasFirst b → valueAt w (foldDifference w s a b) i ≡ Word.difference w (valueAt w a i) (valueAt w b i)
   unfolding valueAt
-  fold-difference-value has-first = difference-rules Kept w a b worked sums right-zero left-zero refl
+  fold-difference-value has-first = difference-rules Kept w s a b worked sums right-zero left-zero refl
     where
       Kept : Folded → Type 0
       Kept r = valueAt w r i ≡ Word.difference w (valueAt w a i) (valueAt w b i)
@@ -259,15 +259,15 @@ module _ (w : ℕ) (a b : Folded) (i : ℕ) where
           sym (value-word w a i) ∙ sym (difference-zero w (valueAt w a i))
           ∙ difference-word w (valueAt w a i) 0 (sym (value-word w a i)) (is-value w b i 0 e)
 
-      left-zero : is 0 a ≡ true → Kept (foldMinus w b)
+      left-zero : is 0 a ≡ true → Kept (foldMinus w (s .right) b)
       left-zero e =
-          fold-minus-value w b i has-first
+          fold-minus-value w (s .right) b i has-first
           ∙ difference-word w 0 (valueAt w b i) (is-value w a i 0 e) (sym (value-word w b i))
 
-  fold-product-value : valueAt w (foldProduct w a b) i ≡ Word.product w (valueAt w a i) (valueAt w b i)
+  fold-product-value : valueAt w (foldProduct w s a b) i ≡ Word.product w (valueAt w a i) (valueAt w b i)
   unfolding valueAt
   fold-product-value =
-      product-rules Kept w a b worked left-one right-one zeros left-scaled right-scaled left-first right-first products sums refl
+      product-rules Kept w s a b worked left-one right-one zeros left-scaled right-scaled left-first right-first products sums refl
     where
       Kept : Folded → Type 0
       Kept r = valueAt w r i ≡ Word.product w (valueAt w a i) (valueAt w b i)
@@ -338,9 +338,9 @@ module _ (w : ℕ) (a b : Folded) (i : ℕ) where
           ∙ ap (Word.word w) (SumLaws.value-product (elements a) (elements b) i)
           ∙ product-word w (sumAt (elements a) i) (sumAt (elements b) i) (sum-chain-value w a i p) (sum-chain-value w b i q)
 
-  fold-raise-value : OddBase a → valueAt w (foldRaise w a b) i ≡ Word.power w (valueAt w a i) (valueAt w b i)
+  fold-raise-value : OddBase a → valueAt w (foldRaise w s a b) i ≡ Word.power w (valueAt w a i) (valueAt w b i)
   unfolding valueAt
-  fold-raise-value base = raise-rules Kept w a b worked raises refl
+  fold-raise-value base = raise-rules Kept w s a b worked raises refl
     where
       Kept : Folded → Type 0
       Kept r = valueAt w r i ≡ Word.power w (valueAt w a i) (valueAt w b i)
@@ -383,35 +383,35 @@ grid-value start step (suc i) =
 
 -- ---- the folded tree of a formula whose raises have odd bases has the formula's direct value
 pub fold-value : (w start step : ℕ) (t : Tree)
-    → ((a b : Tree) (p : ℕ) → Part (Tree.raise a p b) t → (Tree.holdsX a ≡ false) × (valueFor w 0 a % 2 ≡ 1))
+    → ((s : Span) (a b : Tree) (p : ℕ) → Part (Tree.raise s a p b) t → (Tree.holdsX a ≡ false) × (valueFor w 0 a % 2 ≡ 1))
     → (i : ℕ) → valueAt w (fold w start step t) i ≡ directValue w start step t i
 unfolding fold valueAt valueFor
-fold-value w start step (Tree.number p v) good i = mod-mod v (2 ^ w)
-fold-value w start step Tree.variable good i =
+fold-value w start step (Tree.number s p v) good i = mod-mod v (2 ^ w)
+fold-value w start step (Tree.variable s) good i =
     summed-value w (start ∷ step ∷ []) i ∙ ap (Word.word w) (grid-value start step i)
-fold-value w start step (Tree.sum a b) good i =
-    fold-sum-value w (fold w start step a) (fold w start step b) i
+fold-value w start step (Tree.sum s a b) good i =
+    fold-sum-value w _ (fold w start step a) (fold w start step b) i
     ∙ ap₂ (Word.sum w)
-    (fold-value w start step a (λ c d p k. good c d p (sum-left k)) i)
-    (fold-value w start step b (λ c d p k. good c d p (sum-right k)) i)
-fold-value w start step (Tree.difference a b) good i =
-    fold-difference-value w (fold w start step a) (fold w start step b) i (fold-has-first w start step b)
+    (fold-value w start step a (λ u c d p k. good u c d p (sum-left k)) i)
+    (fold-value w start step b (λ u c d p k. good u c d p (sum-right k)) i)
+fold-value w start step (Tree.difference s a b) good i =
+    fold-difference-value w _ (fold w start step a) (fold w start step b) i (fold-has-first w start step b)
     ∙ ap₂ (Word.difference w)
-    (fold-value w start step a (λ c d p k. good c d p (difference-left k)) i)
-    (fold-value w start step b (λ c d p k. good c d p (difference-right k)) i)
-fold-value w start step (Tree.product a b) good i =
-    fold-product-value w (fold w start step a) (fold w start step b) i
+    (fold-value w start step a (λ u c d p k. good u c d p (difference-left k)) i)
+    (fold-value w start step b (λ u c d p k. good u c d p (difference-right k)) i)
+fold-value w start step (Tree.product s a b) good i =
+    fold-product-value w _ (fold w start step a) (fold w start step b) i
     ∙ ap₂ (Word.product w)
-    (fold-value w start step a (λ c d p k. good c d p (product-left k)) i)
-    (fold-value w start step b (λ c d p k. good c d p (product-right k)) i)
-fold-value w start step (Tree.minus a) good i =
-    fold-minus-value w (fold w start step a) i (fold-has-first w start step a)
-    ∙ ap (Word.negation w) (fold-value w start step a (λ c d p k. good c d p (under-minus k)) i)
-fold-value w start step (Tree.literalPower a q n) good i =
-    fold-power-value w (fold w start step a) i n
-    ∙ ap (λ v. Word.power w v n) (fold-value w start step a (λ c d p k. good c d p (under-power k)) i)
-fold-value w start step (Tree.raise a q b) good i =
-    fold-raise-value w (fold w start step a) (fold w start step b) i (fold-base w start step a b q good)
+    (fold-value w start step a (λ u c d p k. good u c d p (product-left k)) i)
+    (fold-value w start step b (λ u c d p k. good u c d p (product-right k)) i)
+fold-value w start step (Tree.minus s a) good i =
+    fold-minus-value w _ (fold w start step a) i (fold-has-first w start step a)
+    ∙ ap (Word.negation w) (fold-value w start step a (λ u c d p k. good u c d p (under-minus k)) i)
+fold-value w start step (Tree.literalPower s a q n) good i =
+    fold-power-value w _ (fold w start step a) i n
+    ∙ ap (λ v. Word.power w v n) (fold-value w start step a (λ u c d p k. good u c d p (under-power k)) i)
+fold-value w start step (Tree.raise s a q b) good i =
+    fold-raise-value w _ (fold w start step a) (fold w start step b) i (fold-base w start step s a b q good)
     ∙ ap₂ (Word.power w)
-    (fold-value w start step a (λ c d p k. good c d p (in-base k)) i)
-    (fold-value w start step b (λ c d p k. good c d p (in-exponent k)) i)
+    (fold-value w start step a (λ u c d p k. good u c d p (in-base k)) i)
+    (fold-value w start step b (λ u c d p k. good u c d p (in-exponent k)) i)

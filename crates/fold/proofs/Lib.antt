@@ -3,6 +3,14 @@ pub mod Shape
 pub mod Tests
 pub mod Rules
 pub mod FoldShape
+pub mod Nesting
+pub mod TextSpans
+pub mod Origins
+pub mod RowOrder
+pub mod Bare
+pub mod CutMarks
+pub mod CutText
+pub mod RowMeaning
 pub mod FoldValues
 pub mod Equality
 pub mod ReadBack

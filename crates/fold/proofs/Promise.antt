@@ -5,6 +5,7 @@ use Prim.Native.Nat.{ℕ}
 use native.Mathlib.Omega.{arith}
 use lib.ListN.{drop}
 use Rattle.plan.specs.Measures.{planLength}
+use Rattle.formula.specs.Tree.{spanOf}
 use Rattle.formula_scan.proofs.Answers.{refused-unique, refused-not-accepted}
 use Rattle.formula_scan.proofs.GrammarScan.{unambiguous}
 use Rattle.fold.specs.Folding.{fold}
@@ -37,7 +38,7 @@ one-plan (refused h A) (accepted k B) = absurd (refused-not-accepted A B)
 one-plan (accepted h A) (too-short k) = absurd (omega arith)
 one-plan (accepted h A) (refused k B) = absurd (refused-not-accepted B A)
 one-plan {w} {start} {step} {lent = lent} (accepted h A) (accepted k B) =
-    ap (λ t. planWords (fold w start step t) ++ drop planLength lent) (unambiguous (A .means) (B .means))
+    ap (λ t. planWords (spanOf t) (fold w start step t) ++ drop planLength lent) (unambiguous (A .means) (B .means))
 
 pub compiling-unique : {w start step : ℕ} {s lent q q′ : List ℕ} {r r′ : CompileAnswer}
     → Compiling w s start step lent r q → Compiling w s start step lent r′ q′ → (r ≡ r′) × (q ≡ q′)

@@ -6,11 +6,12 @@ use Prim.Native.Nat.{ℕ, zero, suc, _+_, _-_, _*_, _≤_, _<_}
 use native.Mathlib.Nat.{not-suc-le-zero, le-of-suc-le-suc}
 use native.Mathlib.Omega.{arith}
 use lib.ListN.{length, getD, take, drop, replicate, length-append, length-replicate}
-use lib.Seq.{slice, take-at, drop-at, take-all}
+use lib.Seq.{slice, take-at, drop-at, getD-drop}
 use Rattle.plan.specs.Measures.{elementCount, planLength, rowLength, rowsLength, mostRows, rowStart}
 use Rattle.chain.specs.Chain as Chain
 use Rattle.chain.proofs.Trimming.{length-row}
-use Rattle.plan.specs.Row.{Row}
+use Rattle.formula.specs.Tree.{Span, first, end}
+use Rattle.plan.specs.Row.{Row, firstByte, endByte}
 use Rattle.plan.specs.Plan as Plan
 use Rattle.plan.specs.Points.{chainOf}
 use Rattle.plan.proofs.SoundLaws.{earlier-row}
@@ -21,7 +22,7 @@ use Rattle.fold.specs.Layout.{rowCount, rowWords, rowsFrom, wordsOf, pla
 use Rattle.fold.proofs.Shape.{Fits, WellFormed}
 use Rattle.fold.proofs.Tests.{either, shaped, sum-chain-again}
 
--- ---- rows of 20 words each
+-- ---- rows of 22 words each
 unfoldable pub FullRows : List Row → Type 0
 FullRows [] = Unit {0}
 FullRows (row ∷ rows) = (length row ≡ rowLength) × FullRows rows
@@ -54,17 +55,18 @@ cut-rows (row ∷ f) rest h =
     (ap (Plan.rowsFrom (length f)) (later-words row (wordsOf f) rest (h .0)) ∙ cut-rows f rest (h .1))
 
 -- ---- the rows of a folded tree
-pub length-row-words : (kind a b : ℕ) (f : List ℕ) → length (rowWords kind a b f) ≡ rowLength
-length-row-words kind a b f = ap (λ n. suc (suc (suc n))) (length-row 17 f)
+pub length-row-words : (kind a b : ℕ) (f : List ℕ) (whole : Span) → length (rowWords kind a b f whole) ≡ rowLength
+length-row-words kind a b f whole =
+    ap (λ n. suc (suc (suc n))) (length-append (Chain.row elementCount f) (first whole ∷ end whole ∷ []) ∙ ap (λ n. n + 2) (length-row elementCount f))
 
--- n rows of 20 words each.
+-- n rows of 22 words each.
 pub record Rows (n : ℕ) (f : List Row) : Type 0 where
   pub count : length f ≡ n
   pub full : FullRows f
 
-one-row : (kind a b : ℕ) (f : List ℕ) → Rows 1 (rowWords kind a b f ∷ [])
+one-row : (kind a b : ℕ) (f : List ℕ) (whole : Span) → Rows 1 (rowWords kind a b f whole ∷ [])
 unfolding FullRows
-one-row kind a b f = record { count = refl; full = (length-row-words kind a b f, tt) }
+one-row kind a b f whole = record { count = refl; full = (length-row-words kind a b f whole, tt) }
 
 rows-together : {n m : ℕ} {f g : List Row} → Rows n f → Rows m g → Rows (n + m) (f ++ g)
 rows-together {f} {g} h k = record {
@@ -72,37 +74,37 @@ rows-together {f} {g} h k = record {
   full = full-append f g (h .full) (k .full);
 }
 
-pub rows-of : (n : ℕ) (a : Folded) → Rows (rowCount a) (rowsFrom n a)
+pub rows-of : (n : ℕ) (whole : Span) (a : Folded) → Rows (rowCount a) (rowsFrom n whole a)
 unfolding rowsFrom rowCount
-rows-of n (constant c) = one-row _ _ _ _
-rows-of n (sumChain f) = one-row _ _ _ _
-rows-of n (productChain f) = one-row _ _ _ _
-rows-of n (sumRow a b) = rows-together (rows-together (rows-of n a) (rows-of (n + rowCount a) b)) (one-row _ _ _ _)
-rows-of n (differenceRow a b) = rows-together (rows-together (rows-of n a) (rows-of (n + rowCount a) b)) (one-row _ _ _ _)
-rows-of n (productRow a b) = rows-together (rows-together (rows-of n a) (rows-of (n + rowCount a) b)) (one-row _ _ _ _)
-rows-of n (minusRow a) = rows-together (rows-of n a) (one-row _ _ _ _)
-rows-of n (powerRow a e) = rows-together (rows-of n a) (one-row _ _ _ _)
-rows-of n (raiseRow a b) = rows-together (rows-together (rows-of n a) (rows-of (n + rowCount a) b)) (one-row _ _ _ _)
+rows-of n whole (constant c) = one-row _ _ _ _ whole
+rows-of n whole (sumChain f) = one-row _ _ _ _ whole
+rows-of n whole (productChain f) = one-row _ _ _ _ whole
+rows-of n whole (sumRow s a b) = rows-together (rows-together (rows-of n (s .left) a) (rows-of (n + rowCount a) (s .right) b)) (one-row _ _ _ _ whole)
+rows-of n whole (differenceRow s a b) = rows-together (rows-together (rows-of n (s .left) a) (rows-of (n + rowCount a) (s .right) b)) (one-row _ _ _ _ whole)
+rows-of n whole (productRow s a b) = rows-together (rows-together (rows-of n (s .left) a) (rows-of (n + rowCount a) (s .right) b)) (one-row _ _ _ _ whole)
+rows-of n whole (minusRow s a) = rows-together (rows-of n s a) (one-row _ _ _ _ whole)
+rows-of n whole (powerRow s a e) = rows-together (rows-of n s a) (one-row _ _ _ _ whole)
+rows-of n whole (raiseRow s a b) = rows-together (rows-together (rows-of n (s .left) a) (rows-of (n + rowCount a) (s .right) b)) (one-row _ _ _ _ whole)
 
 pub some-rows : (a : Folded) → 1 ≤ rowCount a
 unfolding rowCount
 some-rows (constant c) = omega arith
 some-rows (sumChain f) = omega arith
 some-rows (productChain f) = omega arith
-some-rows (sumRow a b) = omega arith
-some-rows (differenceRow a b) = omega arith
-some-rows (productRow a b) = omega arith
-some-rows (minusRow a) = omega arith
-some-rows (powerRow a n) = omega arith
-some-rows (raiseRow a b) = omega arith
+some-rows (sumRow s a b) = omega arith
+some-rows (differenceRow s a b) = omega arith
+some-rows (productRow s a b) = omega arith
+some-rows (minusRow s a) = omega arith
+some-rows (powerRow s a n) = omega arith
+some-rows (raiseRow s a b) = omega arith
 
-pub length-tree : (n : ℕ) (a : Folded) → length (wordsOf (rowsFrom n a)) ≡ rowLength * rowCount a
-length-tree n a = length-words-of (rowsFrom n a) (rows-of n a .full) ∙ ap (λ k. rowLength * k) (rows-of n a .count)
+pub length-tree : (n : ℕ) (whole : Span) (a : Folded) → length (wordsOf (rowsFrom n whole a)) ≡ rowLength * rowCount a
+length-tree n whole a = length-words-of (rowsFrom n whole a) (rows-of n whole a .full) ∙ ap (λ k. rowLength * k) (rows-of n whole a .count)
 
 -- ---- chains and their rows
 -- The row of a chain: the chain is read from it.
-abbrev pub chainRow : ℕ → List ℕ → Row
-chainRow kind f = rowWords kind (length f - 1) 0 f
+abbrev pub chainRow : ℕ → List ℕ → Span → Row
+chainRow kind f whole = rowWords kind (length f - 1) 0 f whole
 
 pub take-row : (n : ℕ) (f : List ℕ) → length f ≤ n → take (length f) (Chain.row n f) ≡ f
 unfolding Chain.row
@@ -110,61 +112,73 @@ take-row n [] h = refl
 take-row zero (a ∷ f) h = absurd (not-suc-le-zero h)
 take-row (suc n) (a ∷ f) h = ap {B = List ℕ} (λ g. a ∷ g) (take-row n f (le-of-suc-le-suc h))
 
--- The elements of a row that is written so are its elements.
-pub row-elements : (f : List ℕ) → take elementCount (Chain.row elementCount f) ≡ Chain.row elementCount f
-row-elements f = take-all elementCount (Chain.row elementCount f) (omega (arith, length-row elementCount f))
+-- The elements of a row that is written so, and the words behind them.
+pub row-elements : (f l : List ℕ) → take elementCount (Chain.row elementCount f ++ l) ≡ Chain.row elementCount f
+row-elements f l = take-at (Chain.row elementCount f) l elementCount (length-row elementCount f)
 
-pub chain-back : (w kind : ℕ) (f : List ℕ) → Fits w f → chainOf (chainRow kind f) ≡ f
-chain-back w kind f fits =
-    ap₂ (λ n g. take n g) count (row-elements f) ∙ take-row elementCount f (fits .most)
+pub row-behind : (f l : List ℕ) → drop elementCount (Chain.row elementCount f ++ l) ≡ l
+row-behind f l = drop-at (Chain.row elementCount f) l elementCount (length-row elementCount f)
+
+-- The span of a row that is written so.
+pub first-back : (kind a b : ℕ) (f : List ℕ) (whole : Span) → firstByte (rowWords kind a b f whole) ≡ first whole
+first-back kind a b f whole =
+    sym (getD-drop elementCount (Chain.row elementCount f ++ first whole ∷ end whole ∷ []) 0 0) ∙ ap (λ l. getD l 0 0) (row-behind f (first whole ∷ end whole ∷ []))
+
+pub end-back : (kind a b : ℕ) (f : List ℕ) (whole : Span) → endByte (rowWords kind a b f whole) ≡ end whole
+end-back kind a b f whole =
+    sym (getD-drop elementCount (Chain.row elementCount f ++ first whole ∷ end whole ∷ []) 1 0) ∙ ap (λ l. getD l 1 0) (row-behind f (first whole ∷ end whole ∷ []))
+
+pub chain-back : (w kind : ℕ) (f : List ℕ) (whole : Span) → Fits w f → chainOf (chainRow kind f whole) ≡ f
+chain-back w kind f whole fits =
+    ap₂ (λ n g. take n g) count (row-elements f (first whole ∷ end whole ∷ [])) ∙ take-row elementCount f (fits .most)
   where
     count : 1 + (length f - 1) ≡ length f
     count = omega (arith, fits .least)
 
 -- So a constant or sum chain is read from its row.
-pub sum-back : (w n : ℕ) (a : Folded) → isSum a ≡ true → WellFormed w a → ofSum (chainOf (getD (rowsFrom n a) 0 [])) ≡ a
+pub sum-back : (w n : ℕ) (whole : Span) (a : Folded) → isSum a ≡ true → WellFormed w a → ofSum (chainOf (getD (rowsFrom n whole a) 0 [])) ≡ a
 unfolding WellFormed rowsFrom Chain.row
-sum-back w n a e =
+sum-back w n whole a e =
     either (isConstant a) (isSumChain a) e
     (λ c. subst Back (sym (shaped a .constantly c)) (λ h. refl))
-    (λ s. subst Back (sym (shaped a .summed s)) (λ h. ap ofSum (chain-back w 1 (elements a) h) ∙ sum-chain-again w (elements a) h))
+    (λ s. subst Back (sym (shaped a .summed s)) (λ h. ap ofSum (chain-back w 1 (elements a) whole h) ∙ sum-chain-again w (elements a) h))
   where
     Back : Folded → Type 0
-    Back b = WellFormed w b → ofSum (chainOf (getD (rowsFrom n b) 0 [])) ≡ b
+    Back b = WellFormed w b → ofSum (chainOf (getD (rowsFrom n whole b) 0 [])) ≡ b
 
 -- ---- the plan
-pub length-plan : (a : Folded) → rowCount a ≤ mostRows → length (planWords a) ≡ planLength
-length-plan a few =
+pub length-plan : (whole : Span) (a : Folded) → rowCount a ≤ mostRows → length (planWords whole a) ≡ planLength
+length-plan whole a few =
     ap suc
-    (length-append (wordsOf (rowsFrom 0 a)) (replicate (rowsLength - rowLength * rowCount a) 0)
-    ∙ ap₂ _+_ (length-tree 0 a) (length-replicate (rowsLength - rowLength * rowCount a) 0))
+    (length-append (wordsOf (rowsFrom 0 whole a)) (replicate (rowsLength - rowLength * rowCount a) 0)
+    ∙ ap₂ _+_ (length-tree 0 whole a) (length-replicate (rowsLength - rowLength * rowCount a) 0))
     ∙ all
   where
     all : suc (rowLength * rowCount a + (rowsLength - rowLength * rowCount a)) ≡ planLength
     all = omega arith
 
-module _ (a : Folded) (rest : List ℕ) where
+module _ (whole : Span) (a : Folded) (rest : List ℕ) where
   -- What comes after the rows: the zeros that fill the plan, and what is not of the plan.
   abbrev pub afterRows : List ℕ
   afterRows = replicate (rowsLength - rowLength * rowCount a) 0 ++ rest
 
-  pub count-back : Plan.rowCount (planWords a ++ rest) ≡ rowCount a
+  pub count-back : Plan.rowCount (planWords whole a ++ rest) ≡ rowCount a
   count-back = refl
 
-  pub words-back : drop 1 (planWords a ++ rest) ≡ wordsOf (rowsFrom 0 a) ++ afterRows
-  words-back = append-assoc (wordsOf (rowsFrom 0 a)) (replicate (rowsLength - rowLength * rowCount a) 0) rest
+  pub words-back : drop 1 (planWords whole a ++ rest) ≡ wordsOf (rowsFrom 0 whole a) ++ afterRows
+  words-back = append-assoc (wordsOf (rowsFrom 0 whole a)) (replicate (rowsLength - rowLength * rowCount a) 0) rest
 
-  pub rows-back : Plan.rows (planWords a ++ rest) ≡ rowsFrom 0 a
+  pub rows-back : Plan.rows (planWords whole a ++ rest) ≡ rowsFrom 0 whole a
   rows-back =
-      ap₂ Plan.rowsFrom (sym (rows-of 0 a .count)) words-back ∙ cut-rows (rowsFrom 0 a) afterRows (rows-of 0 a .full)
+      ap₂ Plan.rowsFrom (sym (rows-of 0 whole a .count)) words-back ∙ cut-rows (rowsFrom 0 whole a) afterRows (rows-of 0 whole a .full)
 
-  pub row-back : (r : ℕ) → r < rowCount a → Plan.row (planWords a ++ rest) r ≡ getD (rowsFrom 0 a) r []
-  row-back r h = sym (earlier-row (planWords a ++ rest) (rowCount a) r h) ∙ ap (λ f. getD f r []) rows-back
+  pub row-back : (r : ℕ) → r < rowCount a → Plan.row (planWords whole a ++ rest) r ≡ getD (rowsFrom 0 whole a) r []
+  row-back r h = sym (earlier-row (planWords whole a ++ rest) (rowCount a) r h) ∙ ap (λ f. getD f r []) rows-back
 
-  pub zeros-back : rowCount a ≤ mostRows → slice (rowStart (rowCount a)) planLength (planWords a ++ rest) ≡ replicate (rowsLength - rowLength * rowCount a) 0
+  pub zeros-back : rowCount a ≤ mostRows → slice (rowStart (rowCount a)) planLength (planWords whole a ++ rest) ≡ replicate (rowsLength - rowLength * rowCount a) 0
   zeros-back few =
-      ap (λ f. drop (rowStart (rowCount a)) f) (take-at (planWords a) rest planLength (length-plan a few))
-      ∙ drop-at (rowCount a ∷ wordsOf (rowsFrom 0 a)) (replicate (rowsLength - rowLength * rowCount a) 0) (rowStart (rowCount a)) front
+      ap (λ f. drop (rowStart (rowCount a)) f) (take-at (planWords whole a) rest planLength (length-plan whole a few))
+      ∙ drop-at (rowCount a ∷ wordsOf (rowsFrom 0 whole a)) (replicate (rowsLength - rowLength * rowCount a) 0) (rowStart (rowCount a)) front
     where
-      front : suc (length (wordsOf (rowsFrom 0 a))) ≡ 1 + rowLength * rowCount a
-      front = rw (length-tree 0 a) (omega arith)
+      front : suc (length (wordsOf (rowsFrom 0 whole a))) ≡ 1 + rowLength * rowCount a
+      front = rw (length-tree 0 whole a) (omega arith)

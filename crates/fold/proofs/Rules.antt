@@ -10,8 +10,8 @@ use Rattle.chain.specs.Chain.{rest, words}
 use Rattle.chain.specs.SumChain as SumChain
 use Rattle.chain.specs.ProductChain as ProductChain
 use Rattle.formula.specs.Tree as Tree
-use Rattle.formula.specs.Tree.{Tree}
-use Rattle.fold.specs.Folded.{Folded, constant, sumRow, differenceRow, productRow, minusRow, powerRow, raiseRow}
+use Rattle.formula.specs.Tree.{Span, Tree}
+use Rattle.fold.specs.Folded.{Spans, Folded, constant, sumRow, differenceRow, productRow, minusRow, powerRow, raiseRow}
 use Rattle.fold.specs.Folded.{isConstant, isSumChain, isProductChain, elements, trimmedSum, trimmedProduct}
 use Rattle.fold.specs.Folding.{wordOf, is, constants, isSum, lengthOf, foldSum, foldMinus, foldDifference, foldProduct, foldPower, foldRaise, fold}
 
@@ -26,13 +26,13 @@ module _ (P : Folded → Type 0) (w : ℕ) where
   rule : (t : Bool) {x y : Folded} → (t ≡ true → P x) → P y → P (cond t x y)
   rule t here later = picked P t here (λ e. later)
 
-  module _ (a b : Folded) where
+  module _ (s : Spans) (a b : Folded) where
     pub sum-rules : (constants a b ≡ true → P (constant (Word.sum w (wordOf a) (wordOf b))))
         → ((isSum a && isSum b) ≡ true → P (trimmedSum (words w (SumChain.sum (elements a) (elements b)))))
         → (is 0 b ≡ true → P a)
         → (is 0 a ≡ true → P b)
-        → P (sumRow a b)
-        → P (foldSum w a b)
+        → P (sumRow s a b)
+        → P (foldSum w s a b)
     unfolding foldSum
     sum-rules worked sums right-zero left-zero row =
         rule (constants a b) worked (rule (isSum a && isSum b) sums (rule (is 0 b) right-zero (rule (is 0 a) left-zero row)))
@@ -40,9 +40,9 @@ module _ (P : Folded → Type 0) (w : ℕ) where
     pub difference-rules : (constants a b ≡ true → P (constant (Word.difference w (wordOf a) (wordOf b))))
         → ((isSum a && isSum b) ≡ true → P (trimmedSum (SumChain.difference w (elements a) (elements b))))
         → (is 0 b ≡ true → P a)
-        → (is 0 a ≡ true → P (foldMinus w b))
-        → P (differenceRow a b)
-        → P (foldDifference w a b)
+        → (is 0 a ≡ true → P (foldMinus w (s .right) b))
+        → P (differenceRow s a b)
+        → P (foldDifference w s a b)
     unfolding foldDifference
     difference-rules worked sums right-zero left-zero row =
         rule (constants a b) worked (rule (isSum a && isSum b) sums (rule (is 0 b) right-zero (rule (is 0 a) left-zero row)))
@@ -58,8 +58,8 @@ module _ (P : Folded → Type 0) (w : ℕ) where
         → ((isProductChain a && isProductChain b) ≡ true → P (trimmedProduct (words w (ProductChain.jointProduct (elements a) (elements b)))))
         → ((isSumChain a && isSumChain b && leb (lengthOf a + lengthOf b) 16) ≡ true
         → P (trimmedSum (words w (SumChain.product (elements a) (elements b)))))
-        → P (productRow a b)
-        → P (foldProduct w a b)
+        → P (productRow s a b)
+        → P (foldProduct w s a b)
     unfolding foldProduct
     product-rules worked left-one right-one zeros left-scaled right-scaled left-first right-first products sums row =
         rule (constants a b) worked
@@ -75,17 +75,17 @@ module _ (P : Folded → Type 0) (w : ℕ) where
 
     pub raise-rules : (constants a b ≡ true → P (constant (Word.power w (wordOf a) (wordOf b))))
         → ((isConstant a && isSumChain b) ≡ true → P (trimmedProduct (words w (ProductChain.raised (wordOf a) (elements b)))))
-        → P (raiseRow a b)
-        → P (foldRaise w a b)
+        → P (raiseRow s a b)
+        → P (foldRaise w s a b)
     unfolding foldRaise
     raise-rules worked raises row = rule (constants a b) worked (rule (isConstant a && isSumChain b) raises row)
 
-  module _ (a : Folded) where
+  module _ (s : Span) (a : Folded) where
     pub minus-rules : (isConstant a ≡ true → P (constant (Word.negation w (wordOf a))))
         → (isSumChain a ≡ true → P (trimmedSum (map (λ f. Word.negation w f) (elements a))))
         → (isProductChain a ≡ true → P (trimmedProduct (Word.negation w (wordOf a) ∷ rest (elements a))))
-        → P (minusRow a)
-        → P (foldMinus w a)
+        → P (minusRow s a)
+        → P (foldMinus w s a)
     unfolding foldMinus
     minus-rules worked every first row = rule (isConstant a) worked (rule (isSumChain a) every (rule (isProductChain a) first row))
 
@@ -95,8 +95,8 @@ module _ (P : Folded → Type 0) (w : ℕ) where
         → (eqb n 1 ≡ true → P a)
         → ((isSumChain a && leb (lengthOf a * n) 16) ≡ true → P (trimmedSum (words w (SumChain.power (elements a) n))))
         → (isProductChain a ≡ true → P (trimmedProduct (words w (ProductChain.powerOfEach (elements a) n))))
-        → (eqb n 0 ≡ false → eqb n 1 ≡ false → P (powerRow a n))
-        → P (foldPower w a n)
+        → (eqb n 0 ≡ false → eqb n 1 ≡ false → P (powerRow s a n))
+        → P (foldPower w s a n)
     unfolding foldPower
     power-rules n worked none once sums each row =
         rule (isConstant a) worked
@@ -108,36 +108,36 @@ module _ (P : Folded → Type 0) (w : ℕ) where
 module _ (P : Folded → Type 0) (of-constant : (c : ℕ) → P (constant c)) (of-sum : (f : List ℕ) → P (trimmedSum f))
     (of-product : (f : List ℕ) → P (trimmedProduct f))
     (of-row : (a : Folded) → isConstant a ≡ false → isSumChain a ≡ false → isProductChain a ≡ false → P a) (w : ℕ) where
-  each-minus : (a : Folded) → P (foldMinus w a)
-  each-minus a =
-      minus-rules P w a (λ e. of-constant _) (λ e. of-sum _) (λ e. of-product (Word.negation w (wordOf a) ∷ rest (elements a))) (of-row _ refl refl refl)
+  each-minus : (s : Span) (a : Folded) → P (foldMinus w s a)
+  each-minus s a =
+      minus-rules P w s a (λ e. of-constant _) (λ e. of-sum _) (λ e. of-product (Word.negation w (wordOf a) ∷ rest (elements a))) (of-row _ refl refl refl)
 
-  each-product : (a b : Folded) → P a → P b → P (foldProduct w a b)
-  each-product a b p q =
-      product-rules P w a b (λ e. of-constant _) (λ e. q) (λ e. p) (λ e. of-constant 0) (λ e. of-sum _) (λ e. of-sum _)
+  each-product : (s : Spans) (a b : Folded) → P a → P b → P (foldProduct w s a b)
+  each-product s a b p q =
+      product-rules P w s a b (λ e. of-constant _) (λ e. q) (λ e. p) (λ e. of-constant 0) (λ e. of-sum _) (λ e. of-sum _)
       (λ e. of-product (words w (ProductChain.scaledFirst (wordOf a) (elements b))))
       (λ e. of-product (words w (ProductChain.scaledFirst (wordOf b) (elements a))))
       (λ e. of-product (words w (ProductChain.jointProduct (elements a) (elements b))))
       (λ e. of-sum _) (of-row _ refl refl refl)
 
-  each-power : (a : Folded) (n : ℕ) → P a → P (foldPower w a n)
-  each-power a n p =
-      power-rules P w a n (λ e. of-constant _) (λ e. of-constant 1) (λ e. p) (λ e. of-sum _)
+  each-power : (s : Span) (a : Folded) (n : ℕ) → P a → P (foldPower w s a n)
+  each-power s a n p =
+      power-rules P w s a n (λ e. of-constant _) (λ e. of-constant 1) (λ e. p) (λ e. of-sum _)
       (λ e. of-product (words w (ProductChain.powerOfEach (elements a) n))) (λ some more. of-row _ refl refl refl)
 
-  each-raise : (a b : Folded) → P (foldRaise w a b)
-  each-raise a b =
-      raise-rules P w a b (λ e. of-constant _) (λ e. of-product (words w (ProductChain.raised (wordOf a) (elements b)))) (of-row _ refl refl refl)
+  each-raise : (s : Spans) (a b : Folded) → P (foldRaise w s a b)
+  each-raise s a b =
+      raise-rules P w s a b (λ e. of-constant _) (λ e. of-product (words w (ProductChain.raised (wordOf a) (elements b)))) (of-row _ refl refl refl)
 
   pub fold-each : (start step : ℕ) (t : Tree) → P (fold w start step t)
   unfolding fold
-  fold-each start step (Tree.number p v) = of-constant _
-  fold-each start step Tree.variable = of-sum _
-  fold-each start step (Tree.sum a b) =
-      sum-rules P w _ _ (λ e. of-constant _) (λ e. of-sum _) (λ e. fold-each start step a) (λ e. fold-each start step b) (of-row _ refl refl refl)
-  fold-each start step (Tree.difference a b) =
-      difference-rules P w _ _ (λ e. of-constant _) (λ e. of-sum _) (λ e. fold-each start step a) (λ e. each-minus _) (of-row _ refl refl refl)
-  fold-each start step (Tree.product a b) = each-product _ _ (fold-each start step a) (fold-each start step b)
-  fold-each start step (Tree.minus a) = each-minus _
-  fold-each start step (Tree.literalPower a p n) = each-power _ n (fold-each start step a)
-  fold-each start step (Tree.raise a p b) = each-raise _ _
+  fold-each start step (Tree.number s p v) = of-constant _
+  fold-each start step (Tree.variable s) = of-sum _
+  fold-each start step (Tree.sum s a b) =
+      sum-rules P w _ _ _ (λ e. of-constant _) (λ e. of-sum _) (λ e. fold-each start step a) (λ e. fold-each start step b) (of-row _ refl refl refl)
+  fold-each start step (Tree.difference s a b) =
+      difference-rules P w _ _ _ (λ e. of-constant _) (λ e. of-sum _) (λ e. fold-each start step a) (λ e. each-minus _ _) (of-row _ refl refl refl)
+  fold-each start step (Tree.product s a b) = each-product _ _ _ (fold-each start step a) (fold-each start step b)
+  fold-each start step (Tree.minus s a) = each-minus _ _
+  fold-each start step (Tree.literalPower s a p n) = each-power _ _ n (fold-each start step a)
+  fold-each start step (Tree.raise s a p b) = each-raise _ _ _

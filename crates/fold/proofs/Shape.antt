@@ -21,9 +21,9 @@ unfoldable pub WellFormed : ℕ → Folded → Type 0
 WellFormed w (constant c) = c < 2 ^ w
 WellFormed w (sumChain f) = Fits w f
 WellFormed w (productChain f) = Fits w f
-WellFormed w (sumRow a b) = WellFormed w a × WellFormed w b
-WellFormed w (differenceRow a b) = WellFormed w a × WellFormed w b
-WellFormed w (productRow a b) = WellFormed w a × WellFormed w b
-WellFormed w (minusRow a) = WellFormed w a
-WellFormed w (powerRow a n) = (2 ≤ n) × (n ≤ 64) × WellFormed w a
-WellFormed w (raiseRow a b) = OddBase a × WellFormed w a × WellFormed w b
+WellFormed w (sumRow s a b) = WellFormed w a × WellFormed w b
+WellFormed w (differenceRow s a b) = WellFormed w a × WellFormed w b
+WellFormed w (productRow s a b) = WellFormed w a × WellFormed w b
+WellFormed w (minusRow s a) = WellFormed w a
+WellFormed w (powerRow s a n) = (2 ≤ n) × (n ≤ 64) × WellFormed w a
+WellFormed w (raiseRow s a b) = OddBase a × WellFormed w a × WellFormed w b

@@ -32,12 +32,12 @@ pub shaped : (a : Folded) → Shaped a
 shaped (constant c) = record { constantly = λ e. refl; summed = λ e. absurd (false≢true e); multiplied = λ e. absurd (false≢true e) }
 shaped (sumChain f) = record { constantly = λ e. absurd (false≢true e); summed = λ e. refl; multiplied = λ e. absurd (false≢true e) }
 shaped (productChain f) = record { constantly = λ e. absurd (false≢true e); summed = λ e. absurd (false≢true e); multiplied = λ e. refl }
-shaped (sumRow a b) = no-chain (sumRow a b) refl refl refl
-shaped (differenceRow a b) = no-chain (differenceRow a b) refl refl refl
-shaped (productRow a b) = no-chain (productRow a b) refl refl refl
-shaped (minusRow a) = no-chain (minusRow a) refl refl refl
-shaped (powerRow a n) = no-chain (powerRow a n) refl refl refl
-shaped (raiseRow a b) = no-chain (raiseRow a b) refl refl refl
+shaped (sumRow s a b) = no-chain (sumRow s a b) refl refl refl
+shaped (differenceRow s a b) = no-chain (differenceRow s a b) refl refl refl
+shaped (productRow s a b) = no-chain (productRow s a b) refl refl refl
+shaped (minusRow s a) = no-chain (minusRow s a) refl refl refl
+shaped (powerRow s a n) = no-chain (powerRow s a n) refl refl refl
+shaped (raiseRow s a b) = no-chain (raiseRow s a b) refl refl refl
 
 -- A sum chain that fits is made again from its elements.
 pub sum-chain-again : (w : ℕ) (f : List ℕ) → Fits w f → ofSum f ≡ sumChain f

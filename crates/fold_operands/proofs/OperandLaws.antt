@@ -1,7 +1,7 @@
 -- Operands that stand in a plan: where their roots are, what the roots' words are, and what the code's tests on them say.
 use mathlib.Core.Path.{_≡_, refl, sym, ap, ap₂, _∙_}
 use mathlib.Core.Bool.{Bool, true, false, _&&_, and-eq-true-iff}
-use mathlib.Core.List.{List}
+use mathlib.Core.List.{List, [], _∷_}
 use Prim.Native.Nat.{ℕ, _+_, _-_, _≤_, _<_}
 use native.Mathlib.Omega.{arith}
 use lib.Dec.{eqb}
@@ -10,15 +10,18 @@ use borrow.Author.Tests.{eqb-true, eqb-false}
 use Rattle.chain.specs.Chain.{row}
 use Rattle.plan.specs.Row.{Row, kind, wordA, elements, firstElement}
 use Rattle.plan.specs.Plan as Plan
+use Rattle.formula.specs.Tree as Tree
+use Rattle.formula.specs.Tree.{Span}
 use Rattle.fold.specs.Folded as Folded
-use Rattle.fold.specs.Folded.{Folded, constant, sumChain, productChain, sumRow, differenceRow, productRow, minusRow, powerRow, raiseRow}
+use Rattle.fold.specs.Folded.{Spans, Folded, constant, sumChain, productChain, sumRow, differenceRow, productRow, minusRow, powerRow, raiseRow}
 use Rattle.fold.specs.Folded.{isConstant}
 use Rattle.fold.specs.Folding.{wordOf, is, lengthOf}
 use Rattle.fold.specs.Layout.{rowWords}
 use Rattle.fold.proofs.Shape.{WellFormed}
 use Rattle.fold.proofs.ReadBack.{row-elements, some-rows, take-row}
 use Rattle.fold.proofs.Tests.{shaped}
-use Rattle.fold_rows.proofs.Stood.{kindOf, root-kind, one-row, chain-stands, is-test, is-none}
+use Rattle.fold.proofs.Origins.{kindOf}
+use Rattle.fold_rows.proofs.Stood.{root-kind, chain-stands, is-test, is-none}
 use Rattle.fold_operands.specs.Operands.{Operand, Operands}
 
 -- ---- chains that fit a row
@@ -38,12 +41,12 @@ unfolding kindOf WellFormed
 chain-operand (constant c) h w = record { some = omega arith; most = omega arith }
 chain-operand (sumChain f) h w = record { some = omega (arith, w .least); most = w .most }
 chain-operand (productChain f) h w = record { some = omega (arith, w .least); most = w .most }
-chain-operand (sumRow a b) h w = absurd (omega arith)
-chain-operand (differenceRow a b) h w = absurd (omega arith)
-chain-operand (productRow a b) h w = absurd (omega arith)
-chain-operand (minusRow a) h w = absurd (omega arith)
-chain-operand (powerRow a n) h w = absurd (omega arith)
-chain-operand (raiseRow a b) h w = absurd (omega arith)
+chain-operand (sumRow s a b) h w = absurd (omega arith)
+chain-operand (differenceRow s a b) h w = absurd (omega arith)
+chain-operand (productRow s a b) h w = absurd (omega arith)
+chain-operand (minusRow s a) h w = absurd (omega arith)
+chain-operand (powerRow s a n) h w = absurd (omega arith)
+chain-operand (raiseRow s a b) h w = absurd (omega arith)
 
 -- ---- a constant or a sum chain: "C standing as f0"
 pub data Sum : Folded → Type 0 where
@@ -55,12 +58,12 @@ unfolding kindOf
 sum-operand (constant c) h = one c
 sum-operand (sumChain f) h = several f
 sum-operand (productChain f) h = absurd (omega arith)
-sum-operand (sumRow a b) h = absurd (omega arith)
-sum-operand (differenceRow a b) h = absurd (omega arith)
-sum-operand (productRow a b) h = absurd (omega arith)
-sum-operand (minusRow a) h = absurd (omega arith)
-sum-operand (powerRow a n) h = absurd (omega arith)
-sum-operand (raiseRow a b) h = absurd (omega arith)
+sum-operand (sumRow s a b) h = absurd (omega arith)
+sum-operand (differenceRow s a b) h = absurd (omega arith)
+sum-operand (productRow s a b) h = absurd (omega arith)
+sum-operand (minusRow s a) h = absurd (omega arith)
+sum-operand (powerRow s a n) h = absurd (omega arith)
+sum-operand (raiseRow s a b) h = absurd (omega arith)
 
 -- ---- the constant n
 pub is-the-constant : (n : ℕ) (a : Folded) → is n a ≡ true → a ≡ constant n
@@ -73,26 +76,23 @@ abbrev pub constantAt : List ℕ → ℕ → ℕ → Bool
 constantAt p r n = eqb (kind (Plan.row p r)) 0 && eqb (firstElement (Plan.row p r)) n
 
 -- ---- one operand
-module _ {p : List ℕ} {first end : ℕ} {a : Folded} (o : Operand p first end a) where
+module _ {p : List ℕ} {first end : ℕ} {s : Span} {a : Folded} (o : Operand p first end s a) where
   pub operand-some : first < end
   operand-some = omega (arith, o .behind, some-rows a)
 
   pub operand-kind : kind (Plan.row p (end - 1)) ≡ kindOf a
-  operand-kind = ap (λ e. kind (Plan.row p (e - 1))) (o .behind) ∙ root-kind p first a (o .stands)
+  operand-kind = ap (λ e. kind (Plan.row p (e - 1))) (o .behind) ∙ root-kind p first s a (o .stands)
 
   -- A constant or a chain is one row.
   module _ (few : kindOf a ≤ 2) where
-    root : end - 1 ≡ first
-    root = omega (arith, o .behind, one-row a few)
-
-    operand-row : Plan.row p (end - 1) ≡ rowWords (kindOf a) (lengthOf a) 0 (Folded.elements a)
-    operand-row = ap (Plan.row p) root ∙ chain-stands p first a (o .stands) few
+    operand-row : Plan.row p (end - 1) ≡ rowWords (kindOf a) (lengthOf a) 0 (Folded.elements a) s
+    operand-row = ap (λ e. Plan.row p (e - 1)) (o .behind) ∙ chain-stands p first s a (o .stands) few
 
     pub operand-last : wordA (Plan.row p (end - 1)) ≡ lengthOf a
     operand-last = ap (λ (row : Row). wordA row) operand-row
 
     pub operand-elements : elements (Plan.row p (end - 1)) ≡ row 17 (Folded.elements a)
-    operand-elements = ap (λ (row : Row). elements row) operand-row ∙ row-elements (Folded.elements a)
+    operand-elements = ap (λ (row : Row). elements row) operand-row ∙ row-elements (Folded.elements a) (Tree.first s ∷ Tree.end s ∷ [])
 
     pub operand-word : firstElement (Plan.row p (end - 1)) ≡ wordOf a
     unfolding row
@@ -127,5 +127,5 @@ module _ {p : List ℕ} {first end : ℕ} {a : Folded} (o : Operand p first end 
           ap (λ x. x && eqb (firstElement (Plan.row p (end - 1))) n) e ∙ sym (is-none a n (eqb-false (kindOf a) 0 e))
 
 -- ---- two operands
-pub operands-some : {p : List ℕ} {left middle end : ℕ} {a b : Folded} → Operands p left middle end a b → (left < middle) × (middle < end)
+pub operands-some : {p : List ℕ} {left middle end : ℕ} {s : Spans} {a b : Folded} → Operands p left middle end s a b → (left < middle) × (middle < end)
 operands-some o = (operand-some (o .first), operand-some (o .second))

@@ -7,7 +7,7 @@ use plan_rows::kinds::SUM_CHAIN;
 use plan_rows::word;
 ghost use mathlib.Core.Path.{_≡_};
 ghost use mathlib.Core.Bool.{cond};
-ghost use mathlib.Core.List.{[], _∷_};
+ghost use mathlib.Core.List.{[], _∷_, _++_};
 ghost use Prim.Native.Nat.{_≤_, _<_};
 ghost use lib.Dec.{eqb};
 ghost use lib.ListN.{length};
@@ -17,7 +17,7 @@ ghost use Rattle.plan.specs.Plan.{row};
 ghost use Rattle.fold.specs.Folded.{constant};
 ghost use Rattle.fold.specs.Layout.{rowWords};
 ghost use Rattle.fold_operands.specs.OperandRows.{isConstantRow};
-ghost use Rattle.fold_rows.specs.Standing.{withRow, placed};
+ghost use Rattle.fold_rows.specs.Standing.{withRow, placed, noSpan};
 
 // The kind of row r.
 pub fn kind(plan: &[u64], r: usize) -> u64
@@ -62,7 +62,7 @@ pub fn is_constant(plan: &[u64], r: usize, n: u64) -> bool
 pub fn append(plan: &mut [u64], end: usize, kind: u64, a: u64, b: u64)
     requires { ⌜ planLength ≤ length (now plan) ⌝ }
     requires { ⌜ end < mostRows ⌝ }
-    ensures { λ _. ⌜ now (plan .exit) ≡ withRow (now (plan .entry)) end (rowWords kind a b []) ⌝ }
+    ensures { λ _. ⌜ now (plan .exit) ≡ withRow (now (plan .entry)) end (rowWords kind a b [] noSpan) ⌝ }
 {
     fold_rows::write(plan, end, kind, a, b, chain_arrays::zeros());
 }
@@ -71,7 +71,7 @@ pub fn append(plan: &mut [u64], end: usize, kind: u64, a: u64, b: u64)
 pub fn put_sum(plan: &mut [u64], r: usize, f: ChainAnswer)
     requires { ⌜ planLength ≤ length (now plan) ⌝ }
     requires { ⌜ r < mostRows ⌝ }
-    ensures { λ _. ⌜ now (plan .exit) ≡ withRow (now (plan .entry)) r (cond (eqb (f .length) 0) 0 1 ∷ (f .length) ∷ 0 ∷ (f .elements)) ⌝ }
+    ensures { λ _. ⌜ now (plan .exit) ≡ withRow (now (plan .entry)) r (cond (eqb (f .length) 0) 0 1 ∷ (f .length) ∷ 0 ∷ (f .elements) ++ 0 ∷ 0 ∷ []) ⌝ }
 {
     let elements = f.elements;
     fold_rows::put_chain(plan, r, SUM_CHAIN, f.length, elements);
@@ -81,7 +81,7 @@ pub fn put_sum(plan: &mut [u64], r: usize, f: ChainAnswer)
 pub fn put_constant(plan: &mut [u64], r: usize, c: u64)
     requires { ⌜ planLength ≤ length (now plan) ⌝ }
     requires { ⌜ r < mostRows ⌝ }
-    ensures { λ _. ⌜ now (plan .exit) ≡ placed (now (plan .entry)) r (constant c) ⌝ }
+    ensures { λ _. ⌜ now (plan .exit) ≡ placed (now (plan .entry)) r noSpan (constant c) ⌝ }
 {
     let mut e = chain_arrays::zeros();
     e[0] = c;

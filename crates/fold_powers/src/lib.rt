@@ -45,7 +45,7 @@ fn fold_high_power(plan: &mut [u64], first: usize, end: usize, n: u64) -> usize
     requires { ⌜ n ≤ 64 ⌝ }
     requires { ⌜ One (now plan) first end ⌝ }
     requires { ⌜ 0 < kind (row (now plan) (end - 1)) ⌝ }
-    ensures { λ r. ⌜ Folds (λ a. foldPower 64 a n) (now (plan .entry)) first end r (now (plan .exit)) ⌝ }
+    ensures { λ r. ⌜ Folds (λ s a. foldPower 64 s a n) (now (plan .entry)) first end r (now (plan .exit)) ⌝ }
 {
     let root = end - 1;
     let root_kind = kind(plan, root);
@@ -72,7 +72,7 @@ pub fn fold_power(plan: &mut [u64], first: usize, end: usize, n: u64) -> usize
     requires { ⌜ end < mostRows ⌝ }
     requires { ⌜ n ≤ 64 ⌝ }
     requires { ⌜ One (now plan) first end ⌝ }
-    ensures { λ r. ⌜ Folds (λ a. foldPower 64 a n) (now (plan .entry)) first end r (now (plan .exit)) ⌝ }
+    ensures { λ r. ⌜ Folds (λ s a. foldPower 64 s a n) (now (plan .entry)) first end r (now (plan .exit)) ⌝ }
 {
     let root = end - 1;
     if kind(plan, root) == CONSTANT {

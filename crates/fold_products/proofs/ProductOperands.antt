@@ -1,7 +1,7 @@
 -- Products of operands that stand in a plan: what the code finds in their rows, and what it leaves of them by the rules.
 use mathlib.Core.Path.{_≡_, refl, sym, ap, ap₂, _∙_}
 use mathlib.Core.Bool.{Bool, true, false, cond, _&&_, _||_, false≢true, and-eq-true-iff}
-use mathlib.Core.List.{List, [], _∷_}
+use mathlib.Core.List.{List, [], _∷_, _++_}
 use Prim.Native.Nat.{ℕ, suc, _+_, _-_, _≤_, _<_}
 use native.Mathlib.Omega.{arith}
 use lib.Dec.{eqb, ltb, leb}
@@ -18,12 +18,12 @@ use Rattle.chain.proofs.Trimming.{length-trimmed}
 use Rattle.plan.specs.Row.{kind, wordA, elements}
 use Rattle.plan.specs.Plan.{row}
 use Rattle.fold.specs.Folded as Folded
-use Rattle.fold.specs.Folded.{Folded, constant, ofProduct, trimmedSum, trimmedProduct}
+use Rattle.fold.specs.Folded.{Spans, Folded, constant, ofProduct, trimmedSum, trimmedProduct}
 use Rattle.fold.specs.Folding.{is, lengthOf, foldProduct}
 use Rattle.fold.specs.Layout.{rowWords}
 use Rattle.fold.proofs.Tests.{either}
-use Rattle.fold_rows.specs.Standing.{withRow, placed, movedDown, filledWithOnes}
-use Rattle.fold_rows.proofs.Stood.{kindOf}
+use Rattle.fold.proofs.Origins.{kindOf}
+use Rattle.fold_rows.specs.Standing.{withRow, placed, noSpan, movedDown, filledWithOnes}
 use Rattle.fold_operands.specs.Operands.{Operands, Left}
 use Rattle.fold_operands.proofs.OperandLaws.{is-the-constant, constantAt, operand-kind, operand-last, operand-chain, operand-taken, operand-short, operand-is}
 use Rattle.fold_operands.proofs.Leaving.{left-as, sum-left, product-left, answer-put, stays, moves, product-row-left}
@@ -41,7 +41,7 @@ sumsAt p r s = ltb (kind (row p r)) 2 && (ltb (kind (row p s)) 2 && leb (wordA (
 few-kinds : (k : ℕ) → (eqb k 0 || eqb k 2) ≡ true → k ≤ 2
 few-kinds k e = either (eqb k 0) (eqb k 2) e (λ z. omega (arith, eqb-true k 0 z)) (λ z. omega (arith, eqb-true k 2 z))
 
-pub products-short : {p : List ℕ} {left middle end : ℕ} {a b : Folded} → Operands p left middle end a b
+pub products-short : {p : List ℕ} {left middle end : ℕ} {s : Spans} {a b : Folded} → Operands p left middle end s a b
     → {t : Bool} → t ≡ (productAt p (middle - 1) && productAt p (end - 1)) → t ≡ true
     → (wordA (row p (middle - 1)) ≤ 16) × (wordA (row p (end - 1)) ≤ 16)
 products-short {p} {middle = middle} {end = end} o asked holds =
@@ -75,22 +75,22 @@ module _ (p : List ℕ) (at : ℕ) (f g : List ℕ) (k l : ℕ) (within : k + l 
       lengths = omega (arith, given-short f k, given-short g l)
 
   pub sums-put : {r : ChainAnswer} {q : List ℕ} → r ≡ answered (productOutcome 64 f k g l)
-      → q ≡ withRow p at (cond (eqb (r .length) 0) 0 1 ∷ (r .length) ∷ 0 ∷ (r .elements)) → q ≡ placed p at (trimmedSum chainProduct)
+      → q ≡ withRow p at (cond (eqb (r .length) 0) 0 1 ∷ (r .length) ∷ 0 ∷ (r .elements) ++ 0 ∷ 0 ∷ []) → q ≡ placed p at noSpan (trimmedSum chainProduct)
   sums-put hr = answer-put p at chainProduct (hr ∙ answer)
 
 -- ---- what the code leaves of two operands
-module _ {p : List ℕ} {left middle end : ℕ} {a b : Folded} (o : Operands p left middle end a b) where
+module _ {p : List ℕ} {left middle end : ℕ} {s : Spans} {a b : Folded} (o : Operands p left middle end s a b) where
   pub one-left : {q : List ℕ} {t : Bool} → rowStart left ≤ length p → t ≡ constantAt p (middle - 1) 1 → t ≡ true
-      → q ≡ movedDown middle (end - middle) p → Left p left (foldProduct 64 a b) (end - 1) q
+      → q ≡ movedDown middle (end - middle) p → Left p left (foldProduct 64 s a b) (end - 1) q
   one-left room asked holds move =
-      left-as (ap (λ c. foldProduct 64 c b) (is-the-constant 1 a one) ∙ one-times b (o .second .formed)) (moves o room 1 one move)
+      left-as (ap (λ c. foldProduct 64 s c b) (is-the-constant 1 a one) ∙ one-times s b (o .second .formed)) (moves o room 1 one move)
     where
       one : is 1 a ≡ true
       one = sym (operand-is (o .first) 1) ∙ sym asked ∙ holds
 
-  pub one-right : {t : Bool} → t ≡ constantAt p (end - 1) 1 → t ≡ true → Left p left (foldProduct 64 a b) (end - 1) p
+  pub one-right : {t : Bool} → t ≡ constantAt p (end - 1) 1 → t ≡ true → Left p left (foldProduct 64 s a b) (end - 1) p
   one-right asked holds =
-      left-as (ap (λ c. foldProduct 64 a c) (is-the-constant 1 b one) ∙ times-one a (o .first .formed)) (stays o 1 one)
+      left-as (ap (λ c. foldProduct 64 s a c) (is-the-constant 1 b one) ∙ times-one s a (o .first .formed)) (stays o 1 one)
     where
       one : is 1 b ≡ true
       one = sym (operand-is (o .second) 1) ∙ sym asked ∙ holds
@@ -107,8 +107,8 @@ module _ {p : List ℕ} {left middle end : ℕ} {a b : Folded} (o : Operands p l
     zeros-at : (is 0 a || is 0 b) ≡ v
     zeros-at = sym (asked-zero ∙ ap₂ _||_ (operand-is (o .first) 0) (operand-is (o .second) 0))
 
-    pub zero-left : {q : List ℕ} → v ≡ true → q ≡ placed p left (constant 0) → Left p left (foldProduct 64 a b) (left + 1) q
-    zero-left holds put = left-as (times-zero a b not-one-a not-one-b (zeros-at ∙ holds)) (sum-left (0 ∷ []) put)
+    pub zero-left : {q : List ℕ} → v ≡ true → q ≡ placed p left noSpan (constant 0) → Left p left (foldProduct 64 s a b) (left + 1) q
+    zero-left holds put = left-as (times-zero s a b not-one-a not-one-b (zeros-at ∙ holds)) (sum-left (0 ∷ []) put)
 
     module _ (no-zero : v ≡ false) {w : Bool} (asked-sums : w ≡ sumsAt p (middle - 1) (end - 1)) where
       plain : Plain a b
@@ -122,17 +122,17 @@ module _ {p : List ℕ} {left middle end : ℕ} {a b : Folded} (o : Operands p l
 
       pub sums-left : {q : List ℕ} → w ≡ true
           → q
-          ≡ placed p left
+          ≡ placed p left noSpan
           (trimmedSum
           (words 64
           (product (given (elements (row p (middle - 1))) (wordA (row p (middle - 1))))
           (given (elements (row p (end - 1))) (wordA (row p (end - 1)))))))
-          → Left p left (foldProduct 64 a b) (left + 1) q
+          → Left p left (foldProduct 64 s a b) (left + 1) q
       sums-left holds put =
-          left-as (as-sums a b sum-a sum-b plain within)
+          left-as (as-sums s a b sum-a sum-b plain within)
           (sum-left (trimmed 0 (words 64 (product (trimmed 0 (Folded.elements a)) (trimmed 0 (Folded.elements b)))))
           (put
-          ∙ ap₂ (λ f g. placed p left (trimmedSum (words 64 (product (trimmed 0 f) (trimmed 0 g)))))
+          ∙ ap₂ (λ f g. placed p left noSpan (trimmedSum (words 64 (product (trimmed 0 f) (trimmed 0 g)))))
           (operand-taken (o .first) few-a refl refl) (operand-taken (o .second) few-b refl refl)))
         where
           tests : (kind (row p (middle - 1)) < 2) × (kind (row p (end - 1)) < 2) × (wordA (row p (middle - 1)) + wordA (row p (end - 1)) ≤ 16)
@@ -171,19 +171,19 @@ module _ {p : List ℕ} {left middle end : ℕ} {a b : Folded} (o : Operands p l
 
         pub products-left : {q : List ℕ} → m ≡ true
             → q
-            ≡ placed p left
+            ≡ placed p left noSpan
             (trimmedProduct
             (words 64
             (jointProduct (filledWithOnes 17 (take (wordA (row p (middle - 1)) + 1) (elements (row p (middle - 1)))))
             (filledWithOnes 17 (take (wordA (row p (end - 1)) + 1) (elements (row p (end - 1))))))))
-            → Left p left (foldProduct 64 a b) (left + 1) q
+            → Left p left (foldProduct 64 s a b) (left + 1) q
         products-left holds put =
-            left-as (as-products a b (tests .0) (tests .1) plain not-sums)
+            left-as (as-products s a b (tests .0) (tests .1) plain not-sums)
             (product-left (ProductChain.trimmedProduct (words 64 (jointProduct (Folded.elements a) (Folded.elements b))))
             (put
-            ∙ ap₂ (λ f g. placed p left (trimmedProduct (words 64 (jointProduct (filledWithOnes 17 f) (filledWithOnes 17 g)))))
+            ∙ ap₂ (λ f g. placed p left noSpan (trimmedProduct (words 64 (jointProduct (filledWithOnes 17 f) (filledWithOnes 17 g)))))
             (operand-taken (o .first) few-a refl refl) (operand-taken (o .second) few-b refl refl)
-            ∙ ap (λ f. placed p left (ofProduct f))
+            ∙ ap (λ f. placed p left noSpan (ofProduct f))
             (filled-product (Folded.elements a) (Folded.elements b) (operand-chain (o .first) few-a .most) (operand-chain (o .second) few-b .most))))
           where
             tests : (isProduct a ≡ true) × (isProduct b ≡ true)
@@ -195,8 +195,8 @@ module _ {p : List ℕ} {left middle end : ℕ} {a b : Folded} (o : Operands p l
             few-b : kindOf b ≤ 2
             few-b = few-kinds (kindOf b) (tests .1)
 
-        pub row-left : {q : List ℕ} → rowStart left ≤ length p → m ≡ false → q ≡ withRow p end (rowWords 5 (middle - 1) (end - 1) [])
-            → Left p left (foldProduct 64 a b) (end + 1) q
+        pub row-left : {q : List ℕ} → rowStart left ≤ length p → m ≡ false → q ≡ withRow p end (rowWords 5 (middle - 1) (end - 1) [] noSpan)
+            → Left p left (foldProduct 64 s a b) (end + 1) q
         row-left room fails put =
-            left-as (as-row a b plain not-sums (λ product-a product-b. false≢true (sym fails ∙ products-at ∙ ap₂ _&&_ product-a product-b)))
+            left-as (as-row s a b plain not-sums (λ product-a product-b. false≢true (sym fails ∙ products-at ∙ ap₂ _&&_ product-a product-b)))
             (product-row-left o room put)

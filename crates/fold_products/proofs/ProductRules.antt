@@ -15,13 +15,14 @@ use Rattle.chain.proofs.SumLaws.{sum-constant, value-scaled, value-product}
 use Rattle.chain.proofs.Trimming.{value-trimmed-sum, length-trimmed}
 use Rattle.chain.proofs.Canonical.{same-trimmed}
 use Rattle.chain.proofs.Calls.{length-product}
-use Rattle.fold.specs.Folded.{Folded, constant, sumChain, productChain, sumRow, differenceRow, productRow, minusRow, powerRow, raiseRow}
+use Rattle.fold.specs.Folded.{Spans, Folded, constant, sumChain, productChain, sumRow, differenceRow, productRow, minusRow, powerRow, raiseRow}
 use Rattle.fold.specs.Folded.{isConstant, isSumChain, isProductChain, elements, ofSum, trimmedSum, trimmedProduct}
 use Rattle.fold.specs.Folding.{wordOf, is, constants, lengthOf, foldProduct}
 use Rattle.fold.proofs.Shape.{WellFormed}
 use Rattle.fold.proofs.Rules.{picked}
 use Rattle.fold.proofs.Tests.{shaped, either}
-use Rattle.fold_rows.proofs.Stood.{kindOf, constant-test, sum-chain-test, product-chain-test}
+use Rattle.fold.proofs.Origins.{kindOf}
+use Rattle.fold_rows.proofs.Stood.{constant-test, sum-chain-test, product-chain-test}
 use Rattle.fold_operands.proofs.OperandLaws.{chain-operand, is-the-constant, Sum, one, several, sum-operand}
 use Rattle.fold_products.proofs.JointElements.{constant-joint, joint-constant}
 
@@ -39,42 +40,42 @@ unfolding kindOf
 product-operand (constant c) e = single c
 product-operand (sumChain f) e = absurd (false≢true e)
 product-operand (productChain f) e = multiplied f
-product-operand (sumRow a b) e = absurd (false≢true e)
-product-operand (differenceRow a b) e = absurd (false≢true e)
-product-operand (productRow a b) e = absurd (false≢true e)
-product-operand (minusRow a) e = absurd (false≢true e)
-product-operand (powerRow a n) e = absurd (false≢true e)
-product-operand (raiseRow a b) e = absurd (false≢true e)
+product-operand (sumRow t a b) e = absurd (false≢true e)
+product-operand (differenceRow t a b) e = absurd (false≢true e)
+product-operand (productRow t a b) e = absurd (false≢true e)
+product-operand (minusRow t a) e = absurd (false≢true e)
+product-operand (powerRow t a n) e = absurd (false≢true e)
+product-operand (raiseRow t a b) e = absurd (false≢true e)
 
 -- ---- the rules of 01 that apply
 -- "1*A: A", also where A is a constant.
-pub one-times : (b : Folded) → WellFormed 64 b → foldProduct 64 (constant 1) b ≡ b
+pub one-times : (s : Spans) (b : Folded) → WellFormed 64 b → foldProduct 64 s (constant 1) b ≡ b
 unfolding foldProduct WellFormed
-one-times (constant c) h = ap constant (ap (λ z. z % 2 ^ 64) (one-mul c) ∙ mod-eq-of-lt h)
-one-times (sumChain f) h = refl
-one-times (productChain f) h = refl
-one-times (sumRow a b) h = refl
-one-times (differenceRow a b) h = refl
-one-times (productRow a b) h = refl
-one-times (minusRow a) h = refl
-one-times (powerRow a n) h = refl
-one-times (raiseRow a b) h = refl
+one-times s (constant c) h = ap constant (ap (λ z. z % 2 ^ 64) (one-mul c) ∙ mod-eq-of-lt h)
+one-times s (sumChain f) h = refl
+one-times s (productChain f) h = refl
+one-times s (sumRow t a b) h = refl
+one-times s (differenceRow t a b) h = refl
+one-times s (productRow t a b) h = refl
+one-times s (minusRow t a) h = refl
+one-times s (powerRow t a n) h = refl
+one-times s (raiseRow t a b) h = refl
 
-pub times-one : (a : Folded) → WellFormed 64 a → foldProduct 64 a (constant 1) ≡ a
+pub times-one : (s : Spans) (a : Folded) → WellFormed 64 a → foldProduct 64 s a (constant 1) ≡ a
 unfolding foldProduct WellFormed
-times-one (constant c) h = ap constant (ap (λ z. z % 2 ^ 64) (mul-one c) ∙ mod-eq-of-lt h)
-times-one (sumChain f) h = refl
-times-one (productChain f) h = refl
-times-one (sumRow a b) h = refl
-times-one (differenceRow a b) h = refl
-times-one (productRow a b) h = refl
-times-one (minusRow a) h = refl
-times-one (powerRow a n) h = refl
-times-one (raiseRow a b) h = refl
+times-one s (constant c) h = ap constant (ap (λ z. z % 2 ^ 64) (mul-one c) ∙ mod-eq-of-lt h)
+times-one s (sumChain f) h = refl
+times-one s (productChain f) h = refl
+times-one s (sumRow t a b) h = refl
+times-one s (differenceRow t a b) h = refl
+times-one s (productRow t a b) h = refl
+times-one s (minusRow t a) h = refl
+times-one s (powerRow t a n) h = refl
+times-one s (raiseRow t a b) h = refl
 
 -- "0*A, A*0: constant 0."
-module _ (a b : Folded) (not-one-a : is 1 a ≡ false) (not-one-b : is 1 b ≡ false) where
-  pub times-zero : (is 0 a || is 0 b) ≡ true → foldProduct 64 a b ≡ constant 0
+module _ (s : Spans) (a b : Folded) (not-one-a : is 1 a ≡ false) (not-one-b : is 1 b ≡ false) where
+  pub times-zero : (is 0 a || is 0 b) ≡ true → foldProduct 64 s a b ≡ constant 0
   unfolding foldProduct
   times-zero e =
       picked (λ r. r ≡ constant 0) (constants a b) (λ _. ap constant nothing) (λ _. rw (not-one-a, not-one-b, e))
@@ -109,28 +110,28 @@ pub record Plain (a b : Folded) : Type 0 where
   pub not-one-b : is 1 b ≡ false
   pub not-zero : (is 0 a || is 0 b) ≡ false
 
-abbrev pub AsSums : Folded → Folded → Type 0
-AsSums a b =
+abbrev pub AsSums : Spans → Folded → Folded → Type 0
+AsSums s a b =
     Plain a b → lengthOf a + lengthOf b ≤ 16
-    → foldProduct 64 a b ≡ trimmedSum (words 64 (product (trimmed 0 (elements a)) (trimmed 0 (elements b))))
+    → foldProduct 64 s a b ≡ trimmedSum (words 64 (product (trimmed 0 (elements a)) (trimmed 0 (elements b))))
 
-constant-constant : (c d : ℕ) → AsSums (constant c) (constant d)
+constant-constant : (s : Spans) (c d : ℕ) → AsSums s (constant c) (constant d)
 unfolding foldProduct trimmed withoutTrailing
-constant-constant c d h within =
+constant-constant s c d h within =
     same-product (c ∷ []) (d ∷ []) (omega arith) (omega arith) within ((c * d) ∷ []) (omega arith)
     (λ i. sum-constant (c * d) i ∙ sym (ap₂ _*_ (sum-constant c i) (sum-constant d i)))
 
-constant-sum : (c : ℕ) (f : List ℕ) → AsSums (constant c) (sumChain f)
+constant-sum : (s : Spans) (c : ℕ) (f : List ℕ) → AsSums s (constant c) (sumChain f)
 unfolding foldProduct WellFormed
-constant-sum c f h within =
+constant-sum s c f h within =
     rw (h .not-one-a, h .not-zero)
     (same-product (c ∷ []) f (omega arith) (omega (arith, h .formed-b .least)) within (scaled c f)
     (rw (length-map f (λ x. c * x)) (h .formed-b .most))
     (λ i. value-scaled c f i ∙ ap (λ z. z * sumAt f i) (sym (sum-constant c i))))
 
-sum-times-constant : (f : List ℕ) (d : ℕ) → AsSums (sumChain f) (constant d)
+sum-times-constant : (s : Spans) (f : List ℕ) (d : ℕ) → AsSums s (sumChain f) (constant d)
 unfolding foldProduct WellFormed
-sum-times-constant f d h within =
+sum-times-constant s f d h within =
     rw (h .not-one-b, h .not-zero)
     (same-product f (d ∷ []) (omega (arith, h .formed-a .least)) (omega arith) within (scaled d f)
     (rw (length-map f (λ x. d * x)) (h .formed-a .most))
@@ -139,55 +140,55 @@ sum-times-constant f d h within =
     swap : (x y : ℕ) → x * y ≡ y * x
     swap x y = omega arith
 
-sum-sum : (f g : List ℕ) → AsSums (sumChain f) (sumChain g)
+sum-sum : (s : Spans) (f g : List ℕ) → AsSums s (sumChain f) (sumChain g)
 unfolding foldProduct WellFormed
-sum-sum f g h within =
+sum-sum s f g h within =
     rw (le-leb (length f - 1 + (length g - 1)) 16 within)
     (same-product f g (omega (arith, h .formed-a .least)) (omega (arith, h .formed-b .least)) within (product f g)
     (omega (arith, within, length-product f g (length f) (length g - 1) (omega arith) (omega arith), h .formed-a .least, h .formed-b .least))
     (λ i. value-product f g i))
 
-pub as-sums : (a b : Folded) → kindOf a < 2 → kindOf b < 2 → AsSums a b
-as-sums a b p q = go (sum-operand a p) (sum-operand b q)
+pub as-sums : (s : Spans) (a b : Folded) → kindOf a < 2 → kindOf b < 2 → AsSums s a b
+as-sums s a b p q = go (sum-operand a p) (sum-operand b q)
   where
-    go : {a b : Folded} → Sum a → Sum b → AsSums a b
-    go (one c) (one d) = constant-constant c d
-    go (one c) (several g) = constant-sum c g
-    go (several f) (one d) = sum-times-constant f d
-    go (several f) (several g) = sum-sum f g
+    go : {a b : Folded} → Sum a → Sum b → AsSums s a b
+    go (one c) (one d) = constant-constant s c d
+    go (one c) (several g) = constant-sum s c g
+    go (several f) (one d) = sum-times-constant s f d
+    go (several f) (several g) = sum-sum s f g
 
 -- "C*P and P*C: f0 only. P*P: element by element, filled with ones."
-abbrev pub AsProducts : Folded → Folded → Type 0
-AsProducts a b =
+abbrev pub AsProducts : Spans → Folded → Folded → Type 0
+AsProducts s a b =
     Plain a b → (kindOf a < 2 → kindOf b < 2 → lengthOf a + lengthOf b ≤ 16 → ⊥)
-    → foldProduct 64 a b ≡ trimmedProduct (words 64 (jointProduct (elements a) (elements b)))
+    → foldProduct 64 s a b ≡ trimmedProduct (words 64 (jointProduct (elements a) (elements b)))
 
-two-constants : (c d : ℕ) → AsProducts (constant c) (constant d)
+two-constants : (s : Spans) (c d : ℕ) → AsProducts s (constant c) (constant d)
 unfolding kindOf
-two-constants c d h other = absurd (other (omega arith) (omega arith) (omega arith))
+two-constants s c d h other = absurd (other (omega arith) (omega arith) (omega arith))
 
-constant-product : (c : ℕ) (f : List ℕ) → AsProducts (constant c) (productChain f)
+constant-product : (s : Spans) (c : ℕ) (f : List ℕ) → AsProducts s (constant c) (productChain f)
 unfolding foldProduct
-constant-product c f h other =
+constant-product s c f h other =
     rw (h .not-one-a, h .not-zero) (ap (λ g. trimmedProduct (words 64 g)) (constant-joint c f))
 
-product-times-constant : (f : List ℕ) (d : ℕ) → AsProducts (productChain f) (constant d)
+product-times-constant : (s : Spans) (f : List ℕ) (d : ℕ) → AsProducts s (productChain f) (constant d)
 unfolding foldProduct
-product-times-constant f d h other =
+product-times-constant s f d h other =
     rw (h .not-one-b, h .not-zero) (ap (λ g. trimmedProduct (words 64 g)) (joint-constant d f))
 
-product-product : (f g : List ℕ) → AsProducts (productChain f) (productChain g)
+product-product : (s : Spans) (f g : List ℕ) → AsProducts s (productChain f) (productChain g)
 unfolding foldProduct
-product-product f g h other = refl
+product-product s f g h other = refl
 
-pub as-products : (a b : Folded) → isProduct a ≡ true → isProduct b ≡ true → AsProducts a b
-as-products a b p q = go (product-operand a p) (product-operand b q)
+pub as-products : (s : Spans) (a b : Folded) → isProduct a ≡ true → isProduct b ≡ true → AsProducts s a b
+as-products s a b p q = go (product-operand a p) (product-operand b q)
   where
-    go : {a b : Folded} → Product a → Product b → AsProducts a b
-    go (single c) (single d) = two-constants c d
-    go (single c) (multiplied g) = constant-product c g
-    go (multiplied f) (single d) = product-times-constant f d
-    go (multiplied f) (multiplied g) = product-product f g
+    go : {a b : Folded} → Product a → Product b → AsProducts s a b
+    go (single c) (single d) = two-constants s c d
+    go (single c) (multiplied g) = constant-product s c g
+    go (multiplied f) (single d) = product-times-constant s f d
+    go (multiplied f) (multiplied g) = product-product s f g
 
 -- "Anything else stays a row of the plan."
 not-both : (s t : Bool) → (s ≡ true → t ≡ true → ⊥) → (s && t) ≡ false
@@ -195,11 +196,11 @@ not-both true true other = absurd (other refl refl)
 not-both true false other = refl
 not-both false t other = refl
 
-pub as-row : (a b : Folded) → Plain a b → (kindOf a < 2 → kindOf b < 2 → lengthOf a + lengthOf b ≤ 16 → ⊥)
+pub as-row : (s : Spans) (a b : Folded) → Plain a b → (kindOf a < 2 → kindOf b < 2 → lengthOf a + lengthOf b ≤ 16 → ⊥)
     → (isProduct a ≡ true → isProduct b ≡ true → ⊥)
-    → foldProduct 64 a b ≡ productRow a b
+    → foldProduct 64 s a b ≡ productRow s a b
 unfolding foldProduct
-as-row a b h no-sums no-products =
+as-row s a b h no-sums no-products =
     rw (
       none-of isConstant isConstant (λ p q. no-products (zero-kind a p) (zero-kind b q)),
       h .not-one-a,
@@ -213,8 +214,8 @@ as-row a b h no-sums no-products =
       long-sums,
     )
   where
-    none-of : (s t : Folded → Bool) → (s a ≡ true → t b ≡ true → ⊥) → (s a && t b) ≡ false
-    none-of s t other = not-both (s a) (t b) other
+    none-of : (x y : Folded → Bool) → (x a ≡ true → y b ≡ true → ⊥) → (x a && y b) ≡ false
+    none-of x y other = not-both (x a) (y b) other
 
     kind-zero : (c : Folded) → isConstant c ≡ true → kindOf c ≡ 0
     kind-zero c e = eqb-true (kindOf c) 0 (sym (constant-test c) ∙ e)

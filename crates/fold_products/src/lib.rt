@@ -24,7 +24,7 @@ ghost use Rattle.plan.specs.Row.{wordA};
 ghost use Rattle.plan.specs.Plan.{row};
 ghost use Rattle.fold.specs.Folded.{trimmedSum, trimmedProduct};
 ghost use Rattle.fold.specs.Folding.{foldProduct};
-ghost use Rattle.fold_rows.specs.Standing.{placed};
+ghost use Rattle.fold_rows.specs.Standing.{placed, noSpan};
 ghost use Rattle.fold_operands.specs.OperandRows.{sumIn, productIn};
 ghost use Rattle.fold_operands.specs.Operands.{Two, FoldsBoth};
 
@@ -37,7 +37,7 @@ fn put_product_of_sums(plan: &mut [u64], r: usize, a: usize, b: usize)
     requires { ⌜ wordA (row (now plan) a) + wordA (row (now plan) b) ≤ 16 ⌝ }
     ensures { λ _. ⌜
         now (plan .exit)
-        ≡ placed (now (plan .entry)) r
+        ≡ placed (now (plan .entry)) r noSpan
         (trimmedSum (words 64 (product (sumIn (row (now (plan .entry)) a)) (sumIn (row (now (plan .entry)) b)))))
         ⌝ }
 {
@@ -58,7 +58,7 @@ fn put_product_of_products(plan: &mut [u64], r: usize, a: usize, b: usize)
     requires { ⌜ wordA (row (now plan) b) ≤ 16 ⌝ }
     ensures { λ _. ⌜
         now (plan .exit)
-        ≡ placed (now (plan .entry)) r
+        ≡ placed (now (plan .entry)) r noSpan
         (trimmedProduct (words 64 (jointProduct (productIn (row (now (plan .entry)) a)) (productIn (row (now (plan .entry)) b)))))
         ⌝ }
 {

@@ -16,11 +16,12 @@ use Rattle.chain.specs.ProductChain as ProductChain
 use Rattle.plan.specs.Row.{kind, elements, firstElement}
 use Rattle.plan.specs.Plan.{row}
 use Rattle.fold.specs.Folded as Folded
-use Rattle.fold.specs.Folded.{Folded, constant, raiseRow, ofProduct, trimmedProduct}
+use Rattle.fold.specs.Folded.{Spans, Folded, constant, raiseRow, ofProduct, trimmedProduct}
 use Rattle.fold.specs.Folding.{wordOf, foldRaise}
 use Rattle.fold.specs.Layout.{rowWords}
-use Rattle.fold_rows.specs.Standing.{withRow, placed}
-use Rattle.fold_rows.proofs.Stood.{kindOf, is-constant, no-constant, no-sum-chain}
+use Rattle.fold.proofs.Origins.{kindOf}
+use Rattle.fold_rows.specs.Standing.{withRow, placed, noSpan}
+use Rattle.fold_rows.proofs.Stood.{is-constant, no-constant, no-sum-chain}
 use Rattle.fold_operands.specs.Operands.{FoldsBoth}
 use Rattle.fold_operands.proofs.OperandLaws.{Sum, one, several, sum-operand, operand-kind}
 use Rattle.fold_operands.proofs.OperandLaws.{operand-elements, operand-word, operand-chain}
@@ -37,27 +38,27 @@ trimmed-alone x = go (eqb x 0) refl
     go false e = refl
 
 -- "C by C" is "C by S" with f0 alone.
-raise-rule : (a b : Folded) → kindOf a ≡ 0 → kindOf b < 2
-    → foldRaise 64 a b ≡ trimmedProduct (words 64 (ProductChain.raised (wordOf a) (Folded.elements b)))
+raise-rule : (s : Spans) (a b : Folded) → kindOf a ≡ 0 → kindOf b < 2
+    → foldRaise 64 s a b ≡ trimmedProduct (words 64 (ProductChain.raised (wordOf a) (Folded.elements b)))
 unfolding foldRaise
-raise-rule a b z few = go (sum-operand b few)
+raise-rule s a b z few = go (sum-operand b few)
   where
-    go : {b : Folded} → Sum b → foldRaise 64 a b ≡ trimmedProduct (words 64 (ProductChain.raised (wordOf a) (Folded.elements b)))
+    go : {b : Folded} → Sum b → foldRaise 64 s a b ≡ trimmedProduct (words 64 (ProductChain.raised (wordOf a) (Folded.elements b)))
     go (one e) = rw (is-constant a z) (sym (trimmed-alone (Word.power 64 (wordOf a) e)))
     go (several f) = rw (is-constant a z)
 
-raise-row-rule : (a b : Folded) → ((kindOf a ≡ 0) × (2 ≤ kindOf b)) ⊎ (kindOf a ≡ 0 → ⊥) → foldRaise 64 a b ≡ raiseRow a b
+raise-row-rule : (s : Spans) (a b : Folded) → ((kindOf a ≡ 0) × (2 ≤ kindOf b)) ⊎ (kindOf a ≡ 0 → ⊥) → foldRaise 64 s a b ≡ raiseRow s a b
 unfolding foldRaise
-raise-row-rule a b (inl (z, many)) = rw (is-constant a z, no-constant b (λ e. omega (arith, e)), no-sum-chain b (λ e. omega (arith, e)))
-raise-row-rule a b (inr none) = rw (no-constant a none)
+raise-row-rule s a b (inl (z, many)) = rw (is-constant a z, no-constant b (λ e. omega (arith, e)), no-sum-chain b (λ e. omega (arith, e)))
+raise-row-rule s a b (inr none) = rw (no-constant a none)
 
 -- ---- what the code leaves
 module _ (p : List ℕ) (left middle end : ℕ) {j k : ℕ} (base : j ≡ kind (row p (middle - 1))) (exponent : k ≡ kind (row p (end - 1))) where
   pub raise-folded : {c : ℕ} {f v q : List ℕ} → j ≡ 0 → k < 2 → c ≡ firstElement (row p (middle - 1)) → f ≡ elements (row p (end - 1))
-      → v ≡ words 64 (ProductChain.raised c f) → q ≡ placed p left (trimmedProduct v) → FoldsBoth (foldRaise 64) p left middle end (left + 1) q
-  raise-folded {c} {f} {v} z few hc hf hv hq a b h =
+      → v ≡ words 64 (ProductChain.raised c f) → q ≡ placed p left noSpan (trimmedProduct v) → FoldsBoth (foldRaise 64) p left middle end (left + 1) q
+  raise-folded {c} {f} {v} z few hc hf hv hq s a b h =
       left-as
-      (raise-rule a b zero small
+      (raise-rule s a b zero small
       ∙ ap ofProduct
       (sym (ap (λ x. ProductChain.trimmedProduct x) filled ∙ raise-trimmed (wordOf a) (Folded.elements b) (operand-chain (h .second) below .most))))
       (product-left (ProductChain.trimmedProduct v) hq)
@@ -78,8 +79,8 @@ module _ (p : List ℕ) (left middle end : ℕ) {j k : ℕ} (base : j ≡ kind (
           (hf ∙ operand-elements (h .second) below)
 
   pub raise-as-row : {q : List ℕ} → rowStart left ≤ length p → ((j ≡ 0) × (2 ≤ k)) ⊎ (j ≡ 0 → ⊥)
-      → q ≡ withRow p end (rowWords 8 (middle - 1) (end - 1) []) → FoldsBoth (foldRaise 64) p left middle end (end + 1) q
-  raise-as-row room kinds hq a b h = left-as (raise-row-rule a b (of-kinds kinds)) (raise-row-left h room hq)
+      → q ≡ withRow p end (rowWords 8 (middle - 1) (end - 1) [] noSpan) → FoldsBoth (foldRaise 64) p left middle end (end + 1) q
+  raise-as-row room kinds hq s a b h = left-as (raise-row-rule s a b (of-kinds kinds)) (raise-row-left h room hq)
     where
       of-kinds : ((j ≡ 0) × (2 ≤ k)) ⊎ (j ≡ 0 → ⊥) → ((kindOf a ≡ 0) × (2 ≤ kindOf b)) ⊎ (kindOf a ≡ 0 → ⊥)
       of-kinds (inl (z, many)) = inl (sym (operand-kind (h .first)) ∙ sym base ∙ z, omega (arith, many, exponent, operand-kind (h .second)))

@@ -1,31 +1,37 @@
--- What stands where in a plan: the rows of a folded tree in it, a tree put into it, an operator behind its operands, and rows moved down.
-use mathlib.Core.Path.{_≡_, refl, sym, ap, ap₂, _∙_}
+-- What stands where in a plan: the rows of a folded tree in it, a tree put into it, an operator behind its operands, a span put into the root's row,
+-- and rows moved down.
+use mathlib.Core.Path.{_≡_, refl, sym, ap, ap₂, subst, _∙_}
 use mathlib.Core.Bool.{true, false, _&&_}
 use mathlib.Core.List.{List, [], _∷_, _++_, map, map-append, append-nil, append-assoc}
 use Prim.Native.Nat.{ℕ, zero, suc, _+_, _-_, _*_, _≤_, _<_}
-use native.Mathlib.Nat.{add-zero, suc-add}
+use native.Mathlib.Nat.{suc-add}
+use native.Mathlib.Numerals.{add-one}
 use native.Mathlib.Omega.{arith}
 use lib.Dec.{eqb, ltb}
-use lib.ListN.{length, getD, take, drop, length-append, length-drop, take-append-drop, length-map}
-use lib.Seq.{take-at, drop-at, getD-at, take-take, take-add, take-suc, take-length, drop-drop, length-take-le, take-append-seam, drop-append-seam}
+use lib.ListN.{length, getD, take, drop, set, length-append, length-drop, take-append-drop, length-map}
+use lib.Seq.{take-at, drop-at, getD-at, take-take, take-add, take-suc, take-length, drop-drop, length-take-le, sets-eq}
+use lib.Seq.{take-append-seam, drop-append-seam, take-append-le}
 use borrow.Author.Tests.{lt-ltb, le-ltb, eq-eqb, ne-eqb}
-use Rattle.plan.specs.Measures.{elementCount, rowLength, rowStart}
-use Rattle.chain.specs.Chain as Chain
-use Rattle.plan.specs.Row.{Row, kind, wordA, elements, firstElement, kindFacts}
+use Rattle.plan.specs.Measures.{elementCount, rowLength, rowStart, spanStart}
+use Rattle.plan.specs.Row.{Row, kind, elements, firstByte, endByte, kindFacts}
 use Rattle.plan.specs.Plan as Plan
 use Rattle.plan.proofs.RowLaws.{row-at, row-part, slice-part}
 use Rattle.plan.proofs.SoundLaws.{earlier-row}
+use Rattle.formula.specs.Tree as Tree
+use Rattle.formula.specs.Tree.{Span, span}
 use Rattle.fold.specs.Folded as Folded
-use Rattle.fold.specs.Folded.{Folded, constant, sumChain, productChain, sumRow, differenceRow, productRow, minusRow, powerRow, raiseRow}
+use Rattle.fold.specs.Folded.{Spans, Folded, constant, sumChain, productChain, sumRow, differenceRow, productRow, minusRow, powerRow, raiseRow}
 use Rattle.fold.specs.Folded.{isConstant, isSumChain, isProductChain, ofSum, ofProduct}
 use Rattle.fold.specs.Folding.{wordOf, is, isSum}
-use Rattle.fold.specs.Layout.{rowCount, rowWords, rootRow, behindBoth, rowsFrom, wordsOf}
-use Rattle.fold.proofs.ReadBack.{FullRows, row-elements, cut-rows, full-append, rows-of, some-rows}
-use Rattle.fold_rows.specs.Standing.{withWords, withRow, Stands, placed, lowered, movedDown}
+use Rattle.fold.specs.Layout.{rowCount, rowWords, rootRow, rowsFrom, wordsOf}
+use Rattle.fold.proofs.ReadBack.{FullRows, full-append, length-words-of, cut-rows, Rows, rows-of, some-rows, length-tree}
+use Rattle.fold.proofs.ReadBack.{row-elements, first-back, end-back}
+use Rattle.fold.proofs.Origins.{kindOf, wordAOf, wordBOf, rootWords, operandRows, root-last, respanned}
+use Rattle.fold_rows.specs.Standing.{withWords, withRow, Stands, placed, withSpan, noSpan, lowered, movedDown}
 use Rattle.fold_rows.proofs.RowWords.{length-elements}
 use Rattle.fold_rows.proofs.Placing.{chainWords, sum-row, product-row}
 
--- ---- rows of 20 words and their words
+-- ---- rows and their words
 words-both : (f g : List Row) → wordsOf (f ++ g) ≡ wordsOf f ++ wordsOf g
 unfolding wordsOf
 words-both [] g = refl
@@ -35,13 +41,10 @@ words-behind : (f : List Row) (row : Row) → wordsOf (f ++ row ∷ []) ≡ word
 unfolding wordsOf
 words-behind f row = words-both f (row ∷ []) ∙ ap (λ l. wordsOf f ++ l) (append-nil row)
 
-words-count : (f : List Row) → FullRows f → length (wordsOf f) ≡ rowLength * length f
-unfolding wordsOf FullRows
-words-count [] h = refl
-words-count (row ∷ f) h = length-append row (wordsOf f) ∙ ap₂ _+_ (h .0) (words-count f (h .1)) ∙ omega arith
-
-pub length-words : (n : ℕ) (a : Folded) → length (wordsOf (rowsFrom n a)) ≡ rowLength * rowCount a
-length-words n a = words-count (rowsFrom n a) (rows-of n a .full) ∙ ap (λ k. rowLength * k) (rows-of n a .count)
+full-left : (f g : List Row) → FullRows (f ++ g) → FullRows f
+unfolding FullRows
+full-left [] g h = tt
+full-left (row ∷ f) g h = (h .0, full-left f g (h .1))
 
 -- ---- rows that stand in a plan from row n on
 abbrev Holds : List ℕ → ℕ → List Row → Type 0
@@ -62,62 +65,32 @@ row-held p n f full h i within =
     rest : List ℕ
     rest = drop (rowLength * length f) (drop (rowStart n) p)
 
-holds-tree : (p : List ℕ) (n : ℕ) (a : Folded) → Stands p n a → Holds p n (rowsFrom n a)
-holds-tree p n a h = ap (λ k. take (rowLength * k) (drop (rowStart n) p)) (rows-of n a .count) ∙ h
+holds-tree : (p : List ℕ) (n : ℕ) (whole : Span) (a : Folded) → Stands p n whole a → Holds p n (rowsFrom n whole a)
+holds-tree p n whole a h = ap (λ k. take (rowLength * k) (drop (rowStart n) p)) (rows-of n whole a .count) ∙ h
 
 -- Row i of a tree that stands from row n on.
-pub row-stands : (p : List ℕ) (n : ℕ) (a : Folded) → Stands p n a → (i : ℕ) → i < rowCount a → Plan.row p (n + i) ≡ getD (rowsFrom n a) i []
-row-stands p n a h i within = row-held p n (rowsFrom n a) (rows-of n a .full) (holds-tree p n a h) i (rw (rows-of n a .count) within)
+pub row-stands : (p : List ℕ) (n : ℕ) (whole : Span) (a : Folded) → Stands p n whole a → (i : ℕ) → i < rowCount a
+    → Plan.row p (n + i) ≡ getD (rowsFrom n whole a) i []
+row-stands p n whole a h i within =
+    row-held p n (rowsFrom n whole a) (rows-of n whole a .full) (holds-tree p n whole a h) i (rw (rows-of n whole a .count) within)
 
-pub root-stands : (p : List ℕ) (n : ℕ) (a : Folded) → Stands p n a → Plan.row p (n + rowCount a - 1) ≡ getD (rowsFrom n a) (rowCount a - 1) []
-root-stands p n a h = ap (Plan.row p) place ∙ row-stands p n a h (rowCount a - 1) (omega (arith, some-rows a))
+-- The root's row stands behind those of its operands.
+operand-count : (n : ℕ) (whole : Span) (a : Folded) → length (operandRows n a) + 1 ≡ rowCount a
+operand-count n whole a =
+    sym (length-append (operandRows n a) (rootWords n a whole ∷ [])) ∙ ap length (sym (root-last n whole a)) ∙ rows-of n whole a .count
+
+pub root-stands : (p : List ℕ) (n : ℕ) (whole : Span) (a : Folded) → Stands p n whole a → Plan.row p (rootRow n a) ≡ rootWords n a whole
+root-stands p n whole a h =
+    ap (Plan.row p) place
+    ∙ row-stands p n whole a h (rowCount a - 1) (omega (arith, some-rows a))
+    ∙ ap (λ f. getD f (rowCount a - 1) []) (root-last n whole a)
+    ∙ getD-at (operandRows n a) (rootWords n a whole) [] [] (rowCount a - 1) (omega (arith, operand-count n whole a))
   where
     place : n + rowCount a - 1 ≡ n + (rowCount a - 1)
     place = omega (arith, some-rows a)
 
--- ---- the kind of the root
-unfoldable pub kindOf : Folded → ℕ
-kindOf (constant c) = 0
-kindOf (sumChain f) = 1
-kindOf (productChain f) = 2
-kindOf (sumRow a b) = 3
-kindOf (differenceRow a b) = 4
-kindOf (productRow a b) = 5
-kindOf (minusRow a) = 6
-kindOf (powerRow a n) = 7
-kindOf (raiseRow a b) = 8
-
-module _ (n k : ℕ) (a : Folded) where
-  last-of-one : (x y : ℕ) → kind (getD (rowsFrom n a ++ rowWords k x y [] ∷ []) (rowCount a + 1 - 1) []) ≡ k
-  last-of-one x y = ap (λ (row : Row). kind row) (getD-at (rowsFrom n a) (rowWords k x y []) [] [] (rowCount a + 1 - 1) (rows-of n a .count ∙ omega arith))
-
-  last-of-both : (b : Folded)
-      → kind (getD (behindBoth n k a b (rowsFrom n a) (rowsFrom (n + rowCount a) b)) (rowCount a + rowCount b + 1 - 1) []) ≡ k
-  last-of-both b =
-      ap (λ (row : Row). kind row)
-      (getD-at (rowsFrom n a ++ rowsFrom (n + rowCount a) b) (rowWords k (rootRow n a) (rootRow (n + rowCount a) b) []) [] []
-      (rowCount a + rowCount b + 1 - 1) count)
-    where
-      count : length (rowsFrom n a ++ rowsFrom (n + rowCount a) b) ≡ rowCount a + rowCount b + 1 - 1
-      count =
-          length-append (rowsFrom n a) (rowsFrom (n + rowCount a) b)
-          ∙ ap₂ _+_ (rows-of n a .count) (rows-of (n + rowCount a) b .count)
-          ∙ omega arith
-
-last-kind : (n : ℕ) (a : Folded) → kind (getD (rowsFrom n a) (rowCount a - 1) []) ≡ kindOf a
-unfolding rowsFrom rowCount kindOf
-last-kind n (constant c) = refl
-last-kind n (sumChain f) = refl
-last-kind n (productChain f) = refl
-last-kind n (sumRow a b) = last-of-both n 3 a b
-last-kind n (differenceRow a b) = last-of-both n 4 a b
-last-kind n (productRow a b) = last-of-both n 5 a b
-last-kind n (minusRow a) = last-of-one n 6 a _ _
-last-kind n (powerRow a m) = last-of-one n 7 a _ _
-last-kind n (raiseRow a b) = last-of-both n 8 a b
-
-pub root-kind : (p : List ℕ) (n : ℕ) (a : Folded) → Stands p n a → kind (Plan.row p (n + rowCount a - 1)) ≡ kindOf a
-root-kind p n a h = ap (λ (row : Row). kind row) (root-stands p n a h) ∙ last-kind n a
+pub root-kind : (p : List ℕ) (n : ℕ) (whole : Span) (a : Folded) → Stands p n whole a → kind (Plan.row p (rootRow n a)) ≡ kindOf a
+root-kind p n whole a h = ap (λ (row : Row). kind row) (root-stands p n whole a h)
 
 -- Constants and chains have one row, with their elements.
 pub one-row : (a : Folded) → kindOf a ≤ 2 → rowCount a ≡ 1
@@ -125,43 +98,29 @@ unfolding rowCount kindOf
 one-row (constant c) h = refl
 one-row (sumChain f) h = refl
 one-row (productChain f) h = refl
-one-row (sumRow a b) h = absurd (omega arith)
-one-row (differenceRow a b) h = absurd (omega arith)
-one-row (productRow a b) h = absurd (omega arith)
-one-row (minusRow a) h = absurd (omega arith)
-one-row (powerRow a n) h = absurd (omega arith)
-one-row (raiseRow a b) h = absurd (omega arith)
+one-row (sumRow s a b) h = absurd (omega arith)
+one-row (differenceRow s a b) h = absurd (omega arith)
+one-row (productRow s a b) h = absurd (omega arith)
+one-row (minusRow s a) h = absurd (omega arith)
+one-row (powerRow s a n) h = absurd (omega arith)
+one-row (raiseRow s a b) h = absurd (omega arith)
 
-first-words : (n : ℕ) (a : Folded) → kindOf a ≤ 2
-    → getD (rowsFrom n a) 0 [] ≡ rowWords (kindOf a) (length (Folded.elements a) - 1) 0 (Folded.elements a)
-unfolding rowsFrom kindOf
-first-words n (constant c) h = refl
-first-words n (sumChain f) h = refl
-first-words n (productChain f) h = refl
-first-words n (sumRow a b) h = absurd (omega arith)
-first-words n (differenceRow a b) h = absurd (omega arith)
-first-words n (productRow a b) h = absurd (omega arith)
-first-words n (minusRow a) h = absurd (omega arith)
-first-words n (powerRow a m) h = absurd (omega arith)
-first-words n (raiseRow a b) h = absurd (omega arith)
+chain-words : (n : ℕ) (whole : Span) (a : Folded) → kindOf a ≤ 2
+    → rootWords n a whole ≡ rowWords (kindOf a) (length (Folded.elements a) - 1) 0 (Folded.elements a) whole
+unfolding kindOf wordAOf wordBOf
+chain-words n whole (constant c) h = refl
+chain-words n whole (sumChain f) h = refl
+chain-words n whole (productChain f) h = refl
+chain-words n whole (sumRow s a b) h = absurd (omega arith)
+chain-words n whole (differenceRow s a b) h = absurd (omega arith)
+chain-words n whole (productRow s a b) h = absurd (omega arith)
+chain-words n whole (minusRow s a) h = absurd (omega arith)
+chain-words n whole (powerRow s a m) h = absurd (omega arith)
+chain-words n whole (raiseRow s a b) h = absurd (omega arith)
 
-module _ (p : List ℕ) (n : ℕ) (a : Folded) (h : Stands p n a) (few : kindOf a ≤ 2) where
-  pub chain-stands : Plan.row p n ≡ rowWords (kindOf a) (length (Folded.elements a) - 1) 0 (Folded.elements a)
-  chain-stands =
-      ap (Plan.row p) (sym (add-zero n)) ∙ row-stands p n a h 0 (omega (arith, some-rows a)) ∙ first-words n a few
-
-  pub chain-kind : kind (Plan.row p n) ≡ kindOf a
-  chain-kind = ap (λ (row : Row). kind row) chain-stands
-
-  pub chain-last : wordA (Plan.row p n) ≡ length (Folded.elements a) - 1
-  chain-last = ap (λ (row : Row). wordA row) chain-stands
-
-  pub chain-elements : elements (Plan.row p n) ≡ Chain.row elementCount (Folded.elements a)
-  chain-elements = ap (λ (row : Row). elements row) chain-stands ∙ row-elements (Folded.elements a)
-
-  pub chain-word : firstElement (Plan.row p n) ≡ wordOf a
-  unfolding Chain.row
-  chain-word = ap (λ (row : Row). firstElement row) chain-stands
+pub chain-stands : (p : List ℕ) (n : ℕ) (whole : Span) (a : Folded) → Stands p n whole a → kindOf a ≤ 2
+    → Plan.row p (rootRow n a) ≡ rowWords (kindOf a) (length (Folded.elements a) - 1) 0 (Folded.elements a) whole
+chain-stands p n whole a h few = root-stands p n whole a h ∙ chain-words n whole a few
 
 -- ---- the tests of the rules, by kinds
 pub constant-test : (a : Folded) → isConstant a ≡ eqb (kindOf a) 0
@@ -169,36 +128,36 @@ unfolding kindOf
 constant-test (constant c) = refl
 constant-test (sumChain f) = refl
 constant-test (productChain f) = refl
-constant-test (sumRow a b) = refl
-constant-test (differenceRow a b) = refl
-constant-test (productRow a b) = refl
-constant-test (minusRow a) = refl
-constant-test (powerRow a n) = refl
-constant-test (raiseRow a b) = refl
+constant-test (sumRow s a b) = refl
+constant-test (differenceRow s a b) = refl
+constant-test (productRow s a b) = refl
+constant-test (minusRow s a) = refl
+constant-test (powerRow s a n) = refl
+constant-test (raiseRow s a b) = refl
 
 pub sum-chain-test : (a : Folded) → isSumChain a ≡ eqb (kindOf a) 1
 unfolding kindOf
 sum-chain-test (constant c) = refl
 sum-chain-test (sumChain f) = refl
 sum-chain-test (productChain f) = refl
-sum-chain-test (sumRow a b) = refl
-sum-chain-test (differenceRow a b) = refl
-sum-chain-test (productRow a b) = refl
-sum-chain-test (minusRow a) = refl
-sum-chain-test (powerRow a n) = refl
-sum-chain-test (raiseRow a b) = refl
+sum-chain-test (sumRow s a b) = refl
+sum-chain-test (differenceRow s a b) = refl
+sum-chain-test (productRow s a b) = refl
+sum-chain-test (minusRow s a) = refl
+sum-chain-test (powerRow s a n) = refl
+sum-chain-test (raiseRow s a b) = refl
 
 pub product-chain-test : (a : Folded) → isProductChain a ≡ eqb (kindOf a) 2
 unfolding kindOf
 product-chain-test (constant c) = refl
 product-chain-test (sumChain f) = refl
 product-chain-test (productChain f) = refl
-product-chain-test (sumRow a b) = refl
-product-chain-test (differenceRow a b) = refl
-product-chain-test (productRow a b) = refl
-product-chain-test (minusRow a) = refl
-product-chain-test (powerRow a n) = refl
-product-chain-test (raiseRow a b) = refl
+product-chain-test (sumRow s a b) = refl
+product-chain-test (differenceRow s a b) = refl
+product-chain-test (productRow s a b) = refl
+product-chain-test (minusRow s a) = refl
+product-chain-test (powerRow s a n) = refl
+product-chain-test (raiseRow s a b) = refl
 
 module _ (a : Folded) where
   pub is-constant : kindOf a ≡ 0 → isConstant a ≡ true
@@ -233,12 +192,12 @@ unfolding kindOf
 sum-test (constant c) = refl
 sum-test (sumChain f) = refl
 sum-test (productChain f) = refl
-sum-test (sumRow a b) = refl
-sum-test (differenceRow a b) = refl
-sum-test (productRow a b) = refl
-sum-test (minusRow a) = refl
-sum-test (powerRow a n) = refl
-sum-test (raiseRow a b) = refl
+sum-test (sumRow s a b) = refl
+sum-test (differenceRow s a b) = refl
+sum-test (productRow s a b) = refl
+sum-test (minusRow s a) = refl
+sum-test (powerRow s a n) = refl
+sum-test (raiseRow s a b) = refl
 
 pub is-sum : (a : Folded) → kindOf a < 2 → isSum a ≡ true
 is-sum a h = sum-test a ∙ lt-ltb (kindOf a) 2 h
@@ -247,10 +206,10 @@ pub no-sum : (a : Folded) → 2 ≤ kindOf a → isSum a ≡ false
 no-sum a h = sum-test a ∙ le-ltb (kindOf a) 2 h
 
 -- ---- one row
-pub sum-placed : (p : List ℕ) (n : ℕ) (t : List ℕ) → 0 < length t → withRow p n (chainWords 1 t) ≡ placed p n (ofSum t)
+pub sum-placed : (p : List ℕ) (n : ℕ) (t : List ℕ) → 0 < length t → withRow p n (chainWords 1 t) ≡ placed p n noSpan (ofSum t)
 sum-placed p n t some = ap (withRow p n) (sym (sum-row n t some))
 
-pub product-placed : (p : List ℕ) (n : ℕ) (t : List ℕ) → 0 < length t → withRow p n (chainWords 2 t) ≡ placed p n (ofProduct t)
+pub product-placed : (p : List ℕ) (n : ℕ) (t : List ℕ) → 0 < length t → withRow p n (chainWords 2 t) ≡ placed p n noSpan (ofProduct t)
 product-placed p n t some = ap (withRow p n) (sym (product-row n t some))
 
 -- ---- words put into a plan: what they leave, what stands there, and other words right behind them
@@ -299,6 +258,9 @@ module _ (p : List ℕ) (at : ℕ) (new : List ℕ) (room : at ≤ length p) whe
       place : i ≡ at + length new + (i - (at + length new))
       place = omega arith
 
+  words-room : at ≤ length (withWords p at new)
+  words-room = omega (arith, length-append (take at p) (new ++ drop (at + length new) p), length-take-le at p room)
+
   pub words-behind-words : (more : List ℕ) → withWords (withWords p at new) (at + length new) more ≡ withWords p at (new ++ more)
   words-behind-words more =
       ap₂ (λ f g. f ++ (more ++ g)) first last
@@ -313,6 +275,22 @@ module _ (p : List ℕ) (at : ℕ) (new : List ℕ) (room : at ≤ length p) whe
 
       last : drop (at + length new + length more) (withWords p at new) ≡ drop (at + length (new ++ more)) p
       last = words-later (at + length new + length more) (omega arith) ∙ ap (λ k. drop k p) count
+
+  -- Other words in their place, no fewer.
+  pub words-over : (more : List ℕ) → length new ≤ length more → withWords (withWords p at new) at more ≡ withWords p at more
+  words-over more fewer = ap₂ (λ f g. f ++ (more ++ g)) words-before (words-later (at + length more) (omega arith))
+
+-- Words put in further on leave those before them.
+pub words-past : (p : List ℕ) (at n : ℕ) (more : List ℕ) → at + n ≤ length p → withWords p (at + n) more ≡ withWords p at (take n (drop at p) ++ more)
+words-past p at n more room =
+    ap₂ (λ q k. withWords q k more) (sym (words-again p at kept (ap (λ k. take k (drop at p)) count))) (ap (λ k. at + k) (sym count))
+    ∙ words-behind-words p at kept (omega arith) more
+  where
+    kept : List ℕ
+    kept = take n (drop at p)
+
+    count : length kept ≡ n
+    count = length-take-le n (drop at p) (omega (arith, length-drop at p))
 
 pub length-with : (p : List ℕ) (at : ℕ) (new : List ℕ) → at + length new ≤ length p → length (withWords p at new) ≡ length p
 length-with p at new room =
@@ -331,10 +309,10 @@ row-behind p n e f row room full h place =
     ∙ ap (withWords p (rowStart n)) (sym (words-behind f row))
   where
     held : take (length (wordsOf f)) (drop (rowStart n) p) ≡ wordsOf f
-    held = ap (λ k. take k (drop (rowStart n) p)) (words-count f full) ∙ h
+    held = ap (λ k. take k (drop (rowStart n) p)) (length-words-of f full) ∙ h
 
     start : rowStart e ≡ rowStart n + length (wordsOf f)
-    start = omega (arith, words-count f full)
+    start = omega (arith, length-words-of f full)
 
 -- Rows that stand one behind the other.
 holds-both : (p : List ℕ) (n : ℕ) (f g : List Row) → Holds p n f → Holds p (n + length f) g → Holds p n (f ++ g)
@@ -350,91 +328,181 @@ holds-both p n f g h k =
     place : rowStart n + rowLength * length f ≡ rowStart (n + length f)
     place = omega arith
 
-module _ (p : List ℕ) (n e : ℕ) (a : Folded) (room : rowStart n ≤ length p) (left : Stands p n a) where
-  behind-one : (k b : ℕ) → e ≡ n + rowCount a
-      → withRow p e (rowWords k (e - 1) b []) ≡ withWords p (rowStart n) (wordsOf (rowsFrom n a ++ rowWords k (rootRow n a) b [] ∷ []))
-  behind-one k b place =
-      row-behind p n e (rowsFrom n a) (rowWords k (e - 1) b []) room (rows-of n a .full) (holds-tree p n a left) (omega (arith, rows-of n a .count))
-      ∙ ap (λ m. withWords p (rowStart n) (wordsOf (rowsFrom n a ++ rowWords k (m - 1) b [] ∷ []))) place
+-- The first of such rows.
+holds-left : (p : List ℕ) (n : ℕ) (f g : List Row) → FullRows f → Holds p n (f ++ g) → Holds p n f
+holds-left p n f g full h =
+    sym (take-take (rowLength * length f) (rowLength * length (f ++ g)) (drop (rowStart n) p) (omega (arith, length-append f g)))
+    ∙ ap (take (rowLength * length f)) (h ∙ words-both f g)
+    ∙ take-at (wordsOf f) (wordsOf g) (rowLength * length f) (length-words-of f full)
 
-  pub minus-placed : e ≡ n + rowCount a → withRow p e (rowWords 6 (e - 1) 0 []) ≡ placed p n (minusRow a)
-  unfolding rowsFrom
-  minus-placed = behind-one 6 0
+-- A tree whose operands stand, and its root's row behind them.
+root-behind : (p : List ℕ) (n e : ℕ) (whole : Span) (f : Folded) → rowStart n ≤ length p → FullRows (operandRows n f) → Holds p n (operandRows n f)
+    → e ≡ n + length (operandRows n f) → withRow p e (rootWords n f whole) ≡ placed p n whole f
+root-behind p n e whole f room full h place =
+    row-behind p n e (operandRows n f) (rootWords n f whole) room full h place
+    ∙ ap (λ rows. withWords p (rowStart n) (wordsOf rows)) (sym (root-last n whole f))
 
-  pub power-placed : (m : ℕ) → e ≡ n + rowCount a → withRow p e (rowWords 7 (e - 1) m []) ≡ placed p n (powerRow a m)
-  unfolding rowsFrom
-  power-placed m = behind-one 7 m
+module _ (p : List ℕ) (n e : ℕ) (s : Span) (a : Folded) (room : rowStart n ≤ length p) (left : Stands p n s a) (place : e ≡ n + rowCount a)
+    (whole : Span) where
+  behind-one : (f : Folded) → operandRows n f ≡ rowsFrom n s a → withRow p e (rootWords n f whole) ≡ placed p n whole f
+  behind-one f operand =
+      root-behind p n e whole f room (subst FullRows (sym operand) (rows-of n s a .full)) (subst (Holds p n) (sym operand) (holds-tree p n s a left))
+      (omega (arith, place, ap length operand, rows-of n s a .count))
 
-  module _ (b : Folded) (right : Stands p (n + rowCount a) b) (place : e ≡ n + rowCount a + rowCount b) where
-    behind-both : (k : ℕ)
-        → withRow p e (rowWords k (n + rowCount a - 1) (e - 1) [])
-        ≡ withWords p (rowStart n) (wordsOf (behindBoth n k a b (rowsFrom n a) (rowsFrom (n + rowCount a) b)))
-    behind-both k =
-        row-behind p n e rows (rowWords k (n + rowCount a - 1) (e - 1) []) room
-        (full-append (rowsFrom n a) (rowsFrom (n + rowCount a) b) (rows-of n a .full) (rows-of (n + rowCount a) b .full))
-        (holds-both p n (rowsFrom n a) (rowsFrom (n + rowCount a) b) (holds-tree p n a left) second) end
-        ∙ ap (λ m. withWords p (rowStart n) (wordsOf (rows ++ rowWords k (n + rowCount a - 1) (m - 1) [] ∷ []))) place
-      where
-        rows : List Row
-        rows = rowsFrom n a ++ rowsFrom (n + rowCount a) b
+  pub minus-placed : withRow p e (rowWords 6 (e - 1) 0 [] whole) ≡ placed p n whole (minusRow s a)
+  unfolding operandRows kindOf wordAOf wordBOf
+  minus-placed = ap (λ m. withRow p e (rowWords 6 (m - 1) 0 [] whole)) place ∙ behind-one (minusRow s a) refl
 
-        second : Holds p (n + length (rowsFrom n a)) (rowsFrom (n + rowCount a) b)
-        second = rw (rows-of n a .count) (holds-tree p (n + rowCount a) b right)
+  pub power-placed : (m : ℕ) → withRow p e (rowWords 7 (e - 1) m [] whole) ≡ placed p n whole (powerRow s a m)
+  unfolding operandRows kindOf wordAOf wordBOf
+  power-placed m = ap (λ k. withRow p e (rowWords 7 (k - 1) m [] whole)) place ∙ behind-one (powerRow s a m) refl
 
-        end : e ≡ n + length rows
-        end =
-            omega (arith, place, length-append (rowsFrom n a) (rowsFrom (n + rowCount a) b), rows-of n a .count, rows-of (n + rowCount a) b .count)
+module _ (p : List ℕ) (n e : ℕ) (s : Spans) (a b : Folded) (room : rowStart n ≤ length p) (left : Stands p n (s .left) a)
+    (right : Stands p (n + rowCount a) (s .right) b) (place : e ≡ n + rowCount a + rowCount b) (whole : Span) where
+  rows : List Row
+  rows = rowsFrom n (s .left) a ++ rowsFrom (n + rowCount a) (s .right) b
 
-    pub sum-row-placed : withRow p e (rowWords 3 (n + rowCount a - 1) (e - 1) []) ≡ placed p n (sumRow a b)
-    unfolding rowsFrom
-    sum-row-placed = behind-both 3
+  behind-both : (f : Folded) → operandRows n f ≡ rows → withRow p e (rootWords n f whole) ≡ placed p n whole f
+  unfolding rows
+  behind-both f operands =
+      root-behind p n e whole f room
+      (subst FullRows (sym operands)
+      (full-append (rowsFrom n (s .left) a) (rowsFrom (n + rowCount a) (s .right) b) (first .full) (rows-of (n + rowCount a) (s .right) b .full)))
+      (subst (Holds p n) (sym operands)
+      (holds-both p n (rowsFrom n (s .left) a) (rowsFrom (n + rowCount a) (s .right) b) (holds-tree p n (s .left) a left) second))
+      (omega (
+        arith,
+        place,
+        ap length operands,
+        length-append (rowsFrom n (s .left) a) (rowsFrom (n + rowCount a) (s .right) b),
+        first .count,
+        rows-of (n + rowCount a) (s .right) b .count,
+      ))
+    where
+      first : Rows (rowCount a) (rowsFrom n (s .left) a)
+      first = rows-of n (s .left) a
 
-    pub difference-row-placed : withRow p e (rowWords 4 (n + rowCount a - 1) (e - 1) []) ≡ placed p n (differenceRow a b)
-    unfolding rowsFrom
-    difference-row-placed = behind-both 4
+      second : Holds p (n + length (rowsFrom n (s .left) a)) (rowsFrom (n + rowCount a) (s .right) b)
+      second = rw (rows-of n (s .left) a .count) (holds-tree p (n + rowCount a) (s .right) b right)
 
-    pub product-row-placed : withRow p e (rowWords 5 (n + rowCount a - 1) (e - 1) []) ≡ placed p n (productRow a b)
-    unfolding rowsFrom
-    product-row-placed = behind-both 5
+  -- The row of an operator of kind k.
+  operator-placed : (k : ℕ) (f : Folded) → operandRows n f ≡ rows
+      → rootWords n f whole ≡ rowWords k (rootRow n a) (rootRow (n + rowCount a) b) [] whole
+      → withRow p e (rowWords k (n + rowCount a - 1) (e - 1) [] whole) ≡ placed p n whole f
+  operator-placed k f operands same =
+      ap (λ m. withRow p e (rowWords k (n + rowCount a - 1) (m - 1) [] whole)) place ∙ ap (withRow p e) (sym same) ∙ behind-both f operands
 
-    pub raise-row-placed : withRow p e (rowWords 8 (n + rowCount a - 1) (e - 1) []) ≡ placed p n (raiseRow a b)
-    unfolding rowsFrom
-    raise-row-placed = behind-both 8
+  pub sum-row-placed : withRow p e (rowWords 3 (n + rowCount a - 1) (e - 1) [] whole) ≡ placed p n whole (sumRow s a b)
+  unfolding operandRows kindOf wordAOf wordBOf rows
+  sum-row-placed = operator-placed 3 (sumRow s a b) refl refl
+
+  pub difference-row-placed : withRow p e (rowWords 4 (n + rowCount a - 1) (e - 1) [] whole) ≡ placed p n whole (differenceRow s a b)
+  unfolding operandRows kindOf wordAOf wordBOf rows
+  difference-row-placed = operator-placed 4 (differenceRow s a b) refl refl
+
+  pub product-row-placed : withRow p e (rowWords 5 (n + rowCount a - 1) (e - 1) [] whole) ≡ placed p n whole (productRow s a b)
+  unfolding operandRows kindOf wordAOf wordBOf rows
+  product-row-placed = operator-placed 5 (productRow s a b) refl refl
+
+  pub raise-row-placed : withRow p e (rowWords 8 (n + rowCount a - 1) (e - 1) [] whole) ≡ placed p n whole (raiseRow s a b)
+  unfolding operandRows kindOf wordAOf wordBOf rows
+  raise-row-placed = operator-placed 8 (raiseRow s a b) refl refl
 
 -- ---- a tree put into a plan
-module _ (p : List ℕ) (n : ℕ) (a : Folded) where
+module _ (p : List ℕ) (n : ℕ) (whole : Span) (a : Folded) where
   -- Put where it stands already, it alters nothing.
-  pub placed-again : Stands p n a → placed p n a ≡ p
-  placed-again h = words-again p (rowStart n) (wordsOf (rowsFrom n a)) (ap (λ k. take k (drop (rowStart n) p)) (length-words n a) ∙ h)
+  pub placed-again : Stands p n whole a → placed p n whole a ≡ p
+  placed-again h =
+      words-again p (rowStart n) (wordsOf (rowsFrom n whole a)) (ap (λ k. take k (drop (rowStart n) p)) (length-tree n whole a) ∙ h)
 
-  end : rowStart n + length (wordsOf (rowsFrom n a)) ≡ rowStart (n + rowCount a)
-  end = omega (arith, length-words n a)
+  behind : rowStart n + length (wordsOf (rowsFrom n whole a)) ≡ rowStart (n + rowCount a)
+  behind = omega (arith, length-tree n whole a)
 
-  pub length-placed : rowStart (n + rowCount a) ≤ length p → length (placed p n a) ≡ length p
-  length-placed room = length-with p (rowStart n) (wordsOf (rowsFrom n a)) (omega (arith, end))
+  pub length-placed : rowStart (n + rowCount a) ≤ length p → length (placed p n whole a) ≡ length p
+  length-placed room = length-with p (rowStart n) (wordsOf (rowsFrom n whole a)) (omega (arith, behind))
 
   module _ (room : rowStart n ≤ length p) where
-    pub placed-stands : Stands (placed p n a) n a
+    pub placed-stands : Stands (placed p n whole a) n whole a
     placed-stands =
-        ap (λ k. take k (drop (rowStart n) (placed p n a))) (sym (length-words n a))
-        ∙ words-there p (rowStart n) (wordsOf (rowsFrom n a)) room
+        ap (λ k. take k (drop (rowStart n) (placed p n whole a))) (sym (length-tree n whole a))
+        ∙ words-there p (rowStart n) (wordsOf (rowsFrom n whole a)) room
+
+    pub room-left : rowStart n ≤ length (placed p n whole a)
+    room-left = words-room p (rowStart n) (wordsOf (rowsFrom n whole a)) room
 
     -- What stands before it stays, and so do all words before and behind it.
-    pub placed-before : take (rowStart n) (placed p n a) ≡ take (rowStart n) p
-    placed-before = words-before p (rowStart n) (wordsOf (rowsFrom n a)) room
+    pub placed-before : take (rowStart n) (placed p n whole a) ≡ take (rowStart n) p
+    placed-before = words-before p (rowStart n) (wordsOf (rowsFrom n whole a)) room
 
-    pub placed-after : drop (rowStart (n + rowCount a)) (placed p n a) ≡ drop (rowStart (n + rowCount a)) p
-    placed-after = words-later p (rowStart n) (wordsOf (rowsFrom n a)) room (rowStart (n + rowCount a)) (omega (arith, end))
+    pub placed-after : drop (rowStart (n + rowCount a)) (placed p n whole a) ≡ drop (rowStart (n + rowCount a)) p
+    placed-after = words-later p (rowStart n) (wordsOf (rowsFrom n whole a)) room (rowStart (n + rowCount a)) (omega (arith, behind))
 
-    pub earlier-stands : (m : ℕ) (b : Folded) → m + rowCount b ≤ n → Stands p m b → Stands (placed p n a) m b
-    earlier-stands m b h s = words-earlier p (rowStart n) (wordsOf (rowsFrom n a)) room (rowStart m) (rowLength * rowCount b) (omega arith) ∙ s
+    pub earlier-stands : (m : ℕ) (s : Span) (b : Folded) → m + rowCount b ≤ n → Stands p m s b → Stands (placed p n whole a) m s b
+    earlier-stands m s b h stands =
+        words-earlier p (rowStart n) (wordsOf (rowsFrom n whole a)) room (rowStart m) (rowLength * rowCount b) (omega arith) ∙ stands
+
+    -- Another tree of no fewer rows put over it.
+    pub placed-over : (s : Span) (b : Folded) → rowCount a ≤ rowCount b → placed (placed p n whole a) n s b ≡ placed p n s b
+    placed-over s b fewer =
+        words-over p (rowStart n) (wordsOf (rowsFrom n whole a)) room (wordsOf (rowsFrom n s b)) (omega (arith, length-tree n whole a, length-tree n s b))
+
+-- ---- a span put into a row
+-- The words of a row before its span, and a span put behind them.
+before-span : (p : List ℕ) (r : ℕ) → take spanStart (Plan.row p r) ≡ take spanStart (drop (rowStart r) p)
+before-span p r = ap (take spanStart) (row-part p r) ∙ take-take spanStart (rowStart r + rowLength - rowStart r) (drop (rowStart r) p) (omega arith)
+
+pub span-stored : (p : List ℕ) (r x y : ℕ) {at : ℕ} → rowStart r + rowLength ≤ length p → at ≡ rowStart r + spanStart
+    → set (set p at x) (at + 1) y ≡ withRow p r (withSpan (Plan.row p r) (span x y))
+span-stored p r x y room place =
+    ap (λ k. set (set p k x) (k + 1) y) place
+    ∙ ap (λ k. set (set p (rowStart r + spanStart) x) k y) (add-one (rowStart r + spanStart))
+    ∙ sets-eq (x ∷ y ∷ []) p (rowStart r + spanStart) (omega arith)
+    ∙ append-assoc (take (rowStart r + spanStart) p) (x ∷ y ∷ []) (drop (rowStart r + spanStart + 2) p)
+    ∙ words-past p (rowStart r) spanStart (x ∷ y ∷ []) (omega arith)
+    ∙ ap (λ f. withRow p r (f ++ x ∷ y ∷ [])) (sym (before-span p r))
+
+-- A span put into a row that was written right before, whatever stands behind its elements.
+pub span-behind : (p : List ℕ) (r k a b : ℕ) (e l : List ℕ) (whole : Span) {q new : List ℕ} → rowStart r ≤ length p → length e ≡ elementCount
+    → length l ≤ 2 → q ≡ withRow p r (k ∷ a ∷ b ∷ e ++ l) → new ≡ withRow q r (withSpan (Plan.row q r) whole)
+    → new ≡ withRow p r (k ∷ a ∷ b ∷ e ++ Tree.first whole ∷ Tree.end whole ∷ [])
+span-behind p r k a b e l whole room long few written put =
+    put
+    ∙ ap (λ q. withRow q r (withSpan (Plan.row q r) whole)) written
+    ∙ ap (λ f. withRow (withRow p r row) r (f ++ Tree.first whole ∷ Tree.end whole ∷ [])) there
+    ∙ words-over p (rowStart r) row room (k ∷ a ∷ b ∷ e ++ Tree.first whole ∷ Tree.end whole ∷ [])
+    (omega (arith, few, length-append e l, length-append e (Tree.first whole ∷ Tree.end whole ∷ [])))
+  where
+    row : Row
+    row = k ∷ a ∷ b ∷ e ++ l
+
+    behind : List ℕ
+    behind = drop (rowStart r + length row) p
+
+    there : take spanStart (Plan.row (withRow p r row) r) ≡ k ∷ a ∷ b ∷ e
+    there =
+        before-span (withRow p r row) r
+        ∙ ap (take spanStart) (words-from p (rowStart r) row room)
+        ∙ ap {B = List ℕ} (λ f. k ∷ a ∷ b ∷ f) (ap (take elementCount) (append-assoc e l behind) ∙ take-at e (l ++ behind) elementCount long)
+
+-- The rows of the operands of a tree that stands.
+operands-full : (n : ℕ) (s : Span) (a : Folded) → FullRows (operandRows n a)
+operands-full n s a = full-left (operandRows n a) (rootWords n a s ∷ []) (subst FullRows (root-last n s a) (rows-of n s a .full))
+
+operands-hold : (p : List ℕ) (n : ℕ) (s : Span) (a : Folded) → Stands p n s a → Holds p n (operandRows n a)
+operands-hold p n s a h =
+    holds-left p n (operandRows n a) (rootWords n a s ∷ []) (operands-full n s a) (subst (Holds p n) (root-last n s a) (holds-tree p n s a h))
+
+-- A span put into the row of a root: the tree stands there under that span, and every other word is as it was.
+pub span-placed : (p : List ℕ) (n e : ℕ) (s whole : Span) (a : Folded) → rowStart n ≤ length p → e ≡ n + rowCount a → Stands p n s a
+    → withRow p (e - 1) (withSpan (Plan.row p (e - 1)) whole) ≡ placed p n whole a
+span-placed p n e s whole a room place h =
+    ap (λ (row : Row). withRow p (e - 1) (withSpan row whole)) (ap (λ m. Plan.row p (m - 1)) place ∙ root-stands p n s a h)
+    ∙ ap (withRow p (e - 1)) (respanned n a s whole)
+    ∙ root-behind p n (e - 1) whole a room (operands-full n s a) (operands-hold p n s a h) (omega (arith, place, operand-count n s a))
 
 -- ---- rows moved down by one
 full-first : (i : ℕ) (f : List Row) → FullRows f → FullRows (take i f)
-unfolding FullRows
-full-first zero f h = tt
-full-first (suc i) [] h = tt
-full-first (suc i) (row ∷ f) h = (h .0, full-first i f (h .1))
+full-first i f h = full-left (take i f) (drop i f) (subst FullRows (sym (take-append-drop i f)) h)
 
 -- Rows, each lowered.
 abbrev pub allLowered : List Row → List Row
@@ -443,7 +511,10 @@ allLowered f = map (λ (row : Row). lowered row) f
 full-lowered : (f : List Row) → FullRows f → FullRows (allLowered f)
 unfolding FullRows
 full-lowered [] h = tt
-full-lowered (row ∷ f) h = (ap (λ k. suc (suc (suc k))) (length-elements row (h .0)), full-lowered f (h .1))
+full-lowered (row ∷ f) h = (ap (λ k. suc (suc (suc k))) long, full-lowered f (h .1))
+  where
+    long : length (elements row ++ firstByte row ∷ endByte row ∷ []) ≡ elementCount + 2
+    long = length-append (elements row) (firstByte row ∷ endByte row ∷ []) ∙ ap (λ k. k + 2) (length-elements row (h .0))
 
 -- Rows that stand from row n + 1 on: after i moves the first i of them stand lowered from row n on, and the others where they stood.
 module _ (p : List ℕ) (n : ℕ) (f : List Row) (room : rowStart n ≤ length p) (full : FullRows f) (h : Holds p (suc n) f) where
@@ -452,7 +523,7 @@ module _ (p : List ℕ) (n : ℕ) (f : List Row) (room : rowStart n ≤ length p
 
   moved-count : (i : ℕ) → i ≤ length f → length (moved i) ≡ rowLength * i
   moved-count i within =
-      words-count (allLowered (take i f)) (full-lowered (take i f) (full-first i f full))
+      length-words-of (allLowered (take i f)) (full-lowered (take i f) (full-first i f full))
       ∙ ap (λ k. rowLength * k) (length-map (take i f) (λ (row : Row). lowered row) ∙ length-take-le i f within)
 
   moved-more : (i : ℕ) → i < length f → moved (suc i) ≡ moved i ++ lowered (getD f i [])
@@ -485,56 +556,72 @@ module _ (p : List ℕ) (n : ℕ) (f : List Row) (room : rowStart n ≤ length p
   moved-all = moved-to (length f) (omega arith) ∙ ap (λ g. withWords p (rowStart n) (wordsOf (allLowered g))) (take-length f)
 
 -- The rows of a tree one row further down.
-module _ (n k : ℕ) (a : Folded) (left : allLowered (rowsFrom (suc n) a) ≡ rowsFrom n a) where
-  lowered-one : (b : ℕ) → ((x : ℕ) → lowered (rowWords k x b []) ≡ rowWords k (x - 1) b [])
-      → allLowered (rowsFrom (suc n) a ++ rowWords k (rootRow (suc n) a) b [] ∷ []) ≡ rowsFrom n a ++ rowWords k (rootRow n a) b [] ∷ []
-  lowered-one b lowers =
-      map-append (λ (row : Row). lowered row) (rowsFrom (suc n) a) (rowWords k (rootRow (suc n) a) b [] ∷ [])
-      ∙ ap₂ (λ f (row : Row). f ++ row ∷ []) left (lowers (rootRow (suc n) a) ∙ ap (λ x. rowWords k x b []) place)
+same-words : (k a b : ℕ) (f : List ℕ) (s : Span)
+    → k ∷ a ∷ b ∷ elements (rowWords k a b f s) ++ firstByte (rowWords k a b f s) ∷ endByte (rowWords k a b f s) ∷ [] ≡ rowWords k a b f s
+same-words k a b f s =
+    λ i. k ∷ a ∷ b ∷ (row-elements f (Tree.first s ∷ Tree.end s ∷ []) i ++ first-back k a b f s i ∷ end-back k a b f s i ∷ [])
+
+module _ (n : ℕ) (s : Span) (a : Folded) where
+  root-below : rootRow (suc n) a - 1 ≡ rootRow n a
+  root-below = omega arith
+
+  lowered-one : (k b : ℕ) → rowWords k (rootRow (suc n) a - 1) b [] s ≡ rowWords k (rootRow n a) b [] s
+  lowered-one k b = ap (λ x. rowWords k x b [] s) root-below
+
+  lowered-both : (k : ℕ) (b : Folded)
+      → rowWords k (rootRow (suc n) a - 1) (rootRow (suc n + rowCount a) b - 1) [] s ≡ rowWords k (rootRow n a) (rootRow (n + rowCount a) b) [] s
+  lowered-both k b = ap₂ (λ x y. rowWords k x y [] s) root-below second
     where
-      place : suc n + rowCount a - 1 - 1 ≡ n + rowCount a - 1
-      place = omega arith
-
-  lowered-both : (b : Folded) → allLowered (rowsFrom (suc (n + rowCount a)) b) ≡ rowsFrom (n + rowCount a) b
-      → ((x y : ℕ) → lowered (rowWords k x y []) ≡ rowWords k (x - 1) (y - 1) [])
-      → allLowered (behindBoth (suc n) k a b (rowsFrom (suc n) a) (rowsFrom (suc n + rowCount a) b))
-      ≡ behindBoth n k a b (rowsFrom n a) (rowsFrom (n + rowCount a) b)
-  lowered-both b right lowers =
-      map-append (λ (row : Row). lowered row) (rowsFrom (suc n) a ++ rowsFrom (suc n + rowCount a) b) (operator ∷ [])
-      ∙ ap₂ (λ f (row : Row). f ++ row ∷ [])
-      (map-append (λ (row : Row). lowered row) (rowsFrom (suc n) a) (rowsFrom (suc n + rowCount a) b)
-      ∙ ap₂ _++_ left (ap (λ m. allLowered (rowsFrom m b)) (suc-add n (rowCount a)) ∙ right))
-      (lowers (rootRow (suc n) a) (rootRow (suc n + rowCount a) b) ∙ ap₂ (λ x y. rowWords k x y []) first second)
-    where
-      operator : Row
-      operator = rowWords k (rootRow (suc n) a) (rootRow (suc n + rowCount a) b) []
-
-      first : suc n + rowCount a - 1 - 1 ≡ n + rowCount a - 1
-      first = omega arith
-
       second : suc n + rowCount a + rowCount b - 1 - 1 ≡ n + rowCount a + rowCount b - 1
       second = omega arith
 
-same-elements : (k a b : ℕ) (f : List ℕ) → k ∷ a ∷ b ∷ take elementCount (Chain.row elementCount f) ≡ rowWords k a b f
-same-elements k a b f = ap {B = Row} (λ l. k ∷ a ∷ b ∷ l) (row-elements f)
+root-lowered : (n : ℕ) (s : Span) (a : Folded) → lowered (rootWords (suc n) a s) ≡ rootWords n a s
+unfolding kindFacts kindOf wordAOf wordBOf
+root-lowered n s (constant c) = same-words 0 0 0 (c ∷ []) s
+root-lowered n s (sumChain f) = same-words 1 (length f - 1) 0 f s
+root-lowered n s (productChain f) = same-words 2 (length f - 1) 0 f s
+root-lowered n s (sumRow t a b) = same-words 3 _ _ [] s ∙ lowered-both n s a 3 b
+root-lowered n s (differenceRow t a b) = same-words 4 _ _ [] s ∙ lowered-both n s a 4 b
+root-lowered n s (productRow t a b) = same-words 5 _ _ [] s ∙ lowered-both n s a 5 b
+root-lowered n s (minusRow t a) = same-words 6 _ _ [] s ∙ lowered-one n s a 6 0
+root-lowered n s (powerRow t a m) = same-words 7 _ _ [] s ∙ lowered-one n s a 7 m
+root-lowered n s (raiseRow t a b) = same-words 8 _ _ [] s ∙ lowered-both n s a 8 b
 
-lowered-leaf : (k a : ℕ) (f : List ℕ) → (k ∷ a ∷ 0 ∷ take elementCount (Chain.row elementCount f)) ∷ [] ≡ rowWords k a 0 f ∷ []
-lowered-leaf k a f = ap {B = List Row} (λ row. row ∷ []) (same-elements k a 0 f)
+behind-lowered : (n : ℕ) (s : Span) (a : Folded) → allLowered (operandRows (suc n) a) ≡ operandRows n a
+    → allLowered (rowsFrom (suc n) s a) ≡ rowsFrom n s a
+behind-lowered n s a operands =
+    ap (λ f. allLowered f) (root-last (suc n) s a)
+    ∙ map-append (λ (row : Row). lowered row) (operandRows (suc n) a) (rootWords (suc n) a s ∷ [])
+    ∙ ap₂ (λ f (row : Row). f ++ row ∷ []) operands (root-lowered n s a)
+    ∙ sym (root-last n s a)
 
-pub rows-lowered : (n : ℕ) (a : Folded) → allLowered (rowsFrom (suc n) a) ≡ rowsFrom n a
-unfolding rowsFrom kindFacts
-rows-lowered n (constant c) = lowered-leaf 0 0 (c ∷ [])
-rows-lowered n (sumChain f) = lowered-leaf 1 (length f - 1) f
-rows-lowered n (productChain f) = lowered-leaf 2 (length f - 1) f
-rows-lowered n (sumRow a b) = lowered-both n 3 a (rows-lowered n a) b (rows-lowered (n + rowCount a) b) (λ x y. same-elements _ _ _ [])
-rows-lowered n (differenceRow a b) = lowered-both n 4 a (rows-lowered n a) b (rows-lowered (n + rowCount a) b) (λ x y. same-elements _ _ _ [])
-rows-lowered n (productRow a b) = lowered-both n 5 a (rows-lowered n a) b (rows-lowered (n + rowCount a) b) (λ x y. same-elements _ _ _ [])
-rows-lowered n (minusRow a) = lowered-one n 6 a (rows-lowered n a) 0 (λ x. same-elements _ _ _ [])
-rows-lowered n (powerRow a m) = lowered-one n 7 a (rows-lowered n a) m (λ x. same-elements _ _ _ [])
-rows-lowered n (raiseRow a b) = lowered-both n 8 a (rows-lowered n a) b (rows-lowered (n + rowCount a) b) (λ x y. same-elements _ _ _ [])
+both-lowered : (n : ℕ) (t : Spans) (a b : Folded) → allLowered (rowsFrom (suc n) (t .left) a) ≡ rowsFrom n (t .left) a
+    → allLowered (rowsFrom (suc (n + rowCount a)) (t .right) b) ≡ rowsFrom (n + rowCount a) (t .right) b
+    → allLowered (rowsFrom (suc n) (t .left) a ++ rowsFrom (suc n + rowCount a) (t .right) b)
+    ≡ rowsFrom n (t .left) a ++ rowsFrom (n + rowCount a) (t .right) b
+both-lowered n t a b left right =
+    map-append (λ (row : Row). lowered row) (rowsFrom (suc n) (t .left) a) (rowsFrom (suc n + rowCount a) (t .right) b)
+    ∙ ap₂ _++_ left (ap (λ m. allLowered (rowsFrom m (t .right) b)) (suc-add n (rowCount a)) ∙ right)
 
-pub moved-placed : (p : List ℕ) (n : ℕ) (a : Folded) → rowStart n ≤ length p → Stands p (suc n) a → movedDown (suc n) (rowCount a) p ≡ placed p n a
-moved-placed p n a room h =
-    ap (λ k. movedDown (suc n) k p) (sym (rows-of (suc n) a .count))
-    ∙ moved-all p n (rowsFrom (suc n) a) room (rows-of (suc n) a .full) (holds-tree p (suc n) a h)
-    ∙ ap (λ f. withWords p (rowStart n) (wordsOf f)) (rows-lowered n a)
+pub rows-lowered : (n : ℕ) (s : Span) (a : Folded) → allLowered (rowsFrom (suc n) s a) ≡ rowsFrom n s a
+unfolding operandRows
+rows-lowered n s (constant c) = behind-lowered n s (constant c) refl
+rows-lowered n s (sumChain f) = behind-lowered n s (sumChain f) refl
+rows-lowered n s (productChain f) = behind-lowered n s (productChain f) refl
+rows-lowered n s (sumRow t a b) =
+    behind-lowered n s (sumRow t a b) (both-lowered n t a b (rows-lowered n (t .left) a) (rows-lowered (n + rowCount a) (t .right) b))
+rows-lowered n s (differenceRow t a b) =
+    behind-lowered n s (differenceRow t a b) (both-lowered n t a b (rows-lowered n (t .left) a) (rows-lowered (n + rowCount a) (t .right) b))
+rows-lowered n s (productRow t a b) =
+    behind-lowered n s (productRow t a b) (both-lowered n t a b (rows-lowered n (t .left) a) (rows-lowered (n + rowCount a) (t .right) b))
+rows-lowered n s (minusRow t a) = behind-lowered n s (minusRow t a) (rows-lowered n t a)
+rows-lowered n s (powerRow t a m) = behind-lowered n s (powerRow t a m) (rows-lowered n t a)
+rows-lowered n s (raiseRow t a b) =
+    behind-lowered n s (raiseRow t a b) (both-lowered n t a b (rows-lowered n (t .left) a) (rows-lowered (n + rowCount a) (t .right) b))
+
+pub moved-placed : (p : List ℕ) (n : ℕ) (s : Span) (a : Folded) → rowStart n ≤ length p → Stands p (suc n) s a
+    → movedDown (suc n) (rowCount a) p ≡ placed p n s a
+moved-placed p n s a room h =
+    ap (λ k. movedDown (suc n) k p) (sym (rows-of (suc n) s a .count))
+    ∙ moved-all p n (rowsFrom (suc n) s a) room (rows-of (suc n) s a .full) (holds-tree p (suc n) s a h)
+    ∙ ap (λ f. withWords p (rowStart n) (wordsOf f)) (rows-lowered n s a)

@@ -1,7 +1,9 @@
-// Rows moved down by one, with the operand rows that they name.
+// Rows moved down by one, with the operand rows that they name and with their spans.
 // Which rule drops the row before them is decided in the crates above.
 use crate::elements;
+use crate::put_span;
 use crate::write;
+use plan::SPAN_START;
 use plan_rows::kinds::operand_count;
 use plan_rows::word;
 ghost use mathlib.Core.Path.{_≡_};
@@ -42,8 +44,12 @@ fn move_row(plan: &mut [u64], r: usize)
     let operands = operand_count(kind);
     let a = lowered(word(plan, r, 1), 0 < operands);
     let b = lowered(word(plan, r, 2), operands == 2);
+    let first = word(plan, r, SPAN_START);
+    let end = word(plan, r, SPAN_START + 1);
     let e = elements(plan, r);
-    write(plan, r - 1, kind, a, b, e);
+    let below = r - 1;
+    write(plan, below, kind, a, b, e);
+    put_span(plan, below, first, end);
 }
 
 // The rows from first up to end, each moved down by one.

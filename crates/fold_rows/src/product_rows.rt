@@ -6,7 +6,7 @@ ghost use Prim.Native.Nat.{_+_, _≤_, _<_};
 ghost use lib.ListN.{length, take};
 ghost use Rattle.plan.specs.Measures.{planLength, mostRows};
 ghost use Rattle.fold.specs.Folded.{trimmedProduct};
-ghost use Rattle.fold_rows.specs.Standing.{filledWithOnes, placed};
+ghost use Rattle.fold_rows.specs.Standing.{filledWithOnes, placed, noSpan};
 
 // The elements up to the given length, and 1 past it.
 pub fn with_ones(elements: [u64; 17], last: usize) -> [u64; 17]
@@ -26,7 +26,7 @@ pub fn with_ones(elements: [u64; 17], last: usize) -> [u64; 17]
 pub fn put_product(plan: &mut [u64], r: usize, elements: [u64; 17])
     requires { ⌜ planLength ≤ length (now plan) ⌝ }
     requires { ⌜ r < mostRows ⌝ }
-    ensures { λ _. ⌜ now (plan .exit) ≡ placed (now (plan .entry)) r (trimmedProduct elements) ⌝ }
+    ensures { λ _. ⌜ now (plan .exit) ≡ placed (now (plan .entry)) r noSpan (trimmedProduct elements) ⌝ }
 {
     if elements[0] == 0 {
         crate::put_chain(plan, r, PRODUCT_CHAIN, 0, chain_arrays::zeros());

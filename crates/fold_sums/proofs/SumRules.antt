@@ -9,8 +9,9 @@ use Rattle.chain.specs.Chain.{joined, withoutTrailing, trimmed, row}
 use Rattle.chain.specs.SumChain.{sumAt}
 use Rattle.chain.specs.Answer.{chain}
 use Rattle.chain.proofs.Calls.{sum-as, difference-as}
+use Rattle.formula.specs.Tree.{Span}
 use Rattle.fold.specs.Folded as Folded
-use Rattle.fold.specs.Folded.{Folded, isConstant, isSumChain, trimmedSum}
+use Rattle.fold.specs.Folded.{Spans, Folded, isConstant, isSumChain, trimmedSum}
 use Rattle.fold.specs.Folding.{is, isSum, constants, foldSum, foldDifference}
 use Rattle.fold.specs.Layout.{rowCount}
 use Rattle.fold_operands.proofs.OperandLaws.{Chain, Sum, one, several}
@@ -29,17 +30,17 @@ pub both-answer : (w : ℕ) {kind : ℕ} → SumOrDifference kind → (f g : Lis
 both-answer w {kind} which = call-answer (chainOfBoth w kind) (both-as which w)
 
 -- ---- the rules for constants and sum chains: "C standing as f0"
-pub both-rule : (w : ℕ) {kind : ℕ} → SumOrDifference kind → {a b : Folded} → Sum a → Sum b
-    → foldSumOrDifference w kind a b ≡ trimmedSum (chainOfBoth w kind (Folded.elements a) (Folded.elements b))
+pub both-rule : (w : ℕ) {kind : ℕ} → SumOrDifference kind → (s : Spans) {a b : Folded} → Sum a → Sum b
+    → foldSumOrDifference w kind s a b ≡ trimmedSum (chainOfBoth w kind (Folded.elements a) (Folded.elements b))
 unfolding foldSum foldDifference joined trimmed withoutTrailing
-both-rule w plus (one c) (one d) = refl
-both-rule w plus (one c) (several g) = refl
-both-rule w plus (several f) (one d) = refl
-both-rule w plus (several f) (several g) = refl
-both-rule w less (one c) (one d) = refl
-both-rule w less (one c) (several g) = refl
-both-rule w less (several f) (one d) = refl
-both-rule w less (several f) (several g) = refl
+both-rule w plus s (one c) (one d) = refl
+both-rule w plus s (one c) (several g) = refl
+both-rule w plus s (several f) (one d) = refl
+both-rule w plus s (several f) (several g) = refl
+both-rule w less s (one c) (one d) = refl
+both-rule w less s (one c) (several g) = refl
+both-rule w less s (several f) (one d) = refl
+both-rule w less s (several f) (several g) = refl
 
 -- ---- the other rules, where not both are constants or sum chains
 no-constants : (x u y v : Bool) → ((x || u) && (y || v)) ≡ false → (x && y) ≡ false
@@ -50,12 +51,12 @@ no-constants false u y v h = refl
 none : (a b : Folded) → (isSum a && isSum b) ≡ false → constants a b ≡ false
 none a b = no-constants (isConstant a) (isSumChain a) (isConstant b) (isSumChain b)
 
-pub both-otherwise : (w : ℕ) {kind : ℕ} → SumOrDifference kind → (a b : Folded) → (isSum a && isSum b) ≡ false
-    → foldSumOrDifference w kind a b ≡ cond (is 0 b) a (cond (is 0 a) (foldAlone w kind b) (rowOfBoth kind a b))
+pub both-otherwise : (w : ℕ) {kind : ℕ} → SumOrDifference kind → (s : Spans) (a b : Folded) → (isSum a && isSum b) ≡ false
+    → foldSumOrDifference w kind s a b ≡ cond (is 0 b) a (cond (is 0 a) (foldAlone w kind (s .right) b) (rowOfBoth kind s a b))
 unfolding foldSum foldDifference
-both-otherwise w plus a b other = rw (none a b other, other)
-both-otherwise w less a b other = rw (none a b other, other)
+both-otherwise w plus s a b other = rw (none a b other, other)
+both-otherwise w less s a b other = rw (none a b other, other)
 
-pub alone-rows : (w : ℕ) {kind : ℕ} → SumOrDifference kind → (a : Folded) → rowCount a ≤ rowCount (foldAlone w kind a)
-alone-rows w plus a = omega arith
-alone-rows w less a = minus-rows w a
+pub alone-rows : (w : ℕ) {kind : ℕ} → SumOrDifference kind → (s : Span) (a : Folded) → rowCount a ≤ rowCount (foldAlone w kind s a)
+alone-rows w plus s a = omega arith
+alone-rows w less s a = minus-rows w s a

@@ -6,7 +6,8 @@ use lib.Dec.{eqb}
 use Rattle.chain.specs.Chain.{words, trimmed}
 use Rattle.chain.specs.SumChain.{sum, difference}
 use Rattle.chain.specs.Answer.{Outcome, chain, unlessLong, given}
-use Rattle.fold.specs.Folded.{Folded, sumRow, differenceRow}
+use Rattle.formula.specs.Tree.{Span}
+use Rattle.fold.specs.Folded.{Spans, Folded, sumRow, differenceRow}
 use Rattle.fold.specs.Folding.{foldSum, foldDifference, foldMinus}
 
 -- The kinds of + and -.
@@ -15,8 +16,8 @@ pub data SumOrDifference : ℕ → Type 0 where
   less : SumOrDifference 4
 
 -- The rules of a sum, or those of a difference.
-abbrev pub foldSumOrDifference : ℕ → ℕ → Folded → Folded → Folded
-foldSumOrDifference w kind a b = cond (eqb kind 3) (foldSum w a b) (foldDifference w a b)
+abbrev pub foldSumOrDifference : ℕ → ℕ → Spans → Folded → Folded → Folded
+foldSumOrDifference w kind s a b = cond (eqb kind 3) (foldSum w s a b) (foldDifference w s a b)
 
 -- "element by element", "and the same under -": the chain of two chains, and what the call for it comes to.
 abbrev pub chainOfBoth : ℕ → ℕ → List ℕ → List ℕ → List ℕ
@@ -26,9 +27,9 @@ abbrev pub bothOutcome : ℕ → ℕ → List ℕ → ℕ → List ℕ → ℕ �
 bothOutcome w kind f k g l = unlessLong k (unlessLong l (chain (trimmed 0 (chainOfBoth w kind (given f k) (given g l)))))
 
 -- "0+A: A." "0-A: as minus A."
-abbrev pub foldAlone : ℕ → ℕ → Folded → Folded
-foldAlone w kind a = cond (eqb kind 3) a (foldMinus w a)
+abbrev pub foldAlone : ℕ → ℕ → Span → Folded → Folded
+foldAlone w kind s a = cond (eqb kind 3) a (foldMinus w s a)
 
 -- "Anything else stays a row of the plan."
-abbrev pub rowOfBoth : ℕ → Folded → Folded → Folded
-rowOfBoth kind a b = cond (eqb kind 3) (sumRow a b) (differenceRow a b)
+abbrev pub rowOfBoth : ℕ → Spans → Folded → Folded → Folded
+rowOfBoth kind s a b = cond (eqb kind 3) (sumRow s a b) (differenceRow s a b)

@@ -6,7 +6,7 @@ use native.Mathlib.Omega.{arith}
 use lib.ListN.{length, length-append}
 use Rattle.formula.specs.Bytes.{openBracket, closeBracket, star, plusSign, minusSign, caret}
 use Rattle.formula.specs.Marks.{Mark, mark, marked}
-use Rattle.formula.specs.Tree.{Tree, number, variable, sum, difference, product, minus, literalPower, raise, nodes}
+use Rattle.formula.specs.Tree.{Span, Tree, number, variable, sum, difference, product, minus, literalPower, raise, nodes}
 use Rattle.formula.specs.Grammar.{Number, nought, digits, Sort, anAtom, Means, one-product, joined-by-plus, joined-by-minus, one-factor, joined-by-star, a-power, leading-minus, an-atom, to-a-number, to-a-sum, a-number, an-x, in-brackets, Formula}
 use Rattle.formula.specs.Refusals.{Part, itself, sum-left, sum-right, difference-left, difference-right, product-left, product-right, under-minus, under-power, in-base, in-exponent}
 use Rattle.formula.proofs.TextMarks.{marked-length, Rising, next-mark, rising-within, rising-upto, rising-parts, marked-rises}
@@ -37,28 +37,28 @@ nodes-fit (in-brackets closes M) = simp length-append (omega (arith, nodes-fit M
 
 some-node : (t : Tree) → 1 ≤ nodes t
 unfolding nodes
-some-node (number p v) = omega arith
-some-node variable = omega arith
-some-node (sum a b) = omega arith
-some-node (difference a b) = omega arith
-some-node (product a b) = omega arith
-some-node (minus a) = omega arith
-some-node (literalPower a p n) = omega arith
-some-node (raise a p b) = omega arith
+some-node (number s p v) = omega arith
+some-node (variable s) = omega arith
+some-node (sum s a b) = omega arith
+some-node (difference s a b) = omega arith
+some-node (product s a b) = omega arith
+some-node (minus s a) = omega arith
+some-node (literalPower s a p n) = omega arith
+some-node (raise s a p b) = omega arith
 
 pub some-byte : {sort : Sort} {s : List Mark} {t : Tree} → Means sort s t → 1 ≤ length s
 some-byte {t = t} M = le-trans (some-node t) (nodes-fit M)
 
 -- ---- `Made at end u`: u, as the grammar made it of marks whose places rise from `at` on and are below `end`
 data Made (at end : ℕ) : Tree → Type 0 where
-  a-number-made : {p v : ℕ} → at ≤ p → p < end → Made at end (number p v)
-  an-x-made : Made at end variable
-  a-sum-made : {a b : Tree} → Made at end (sum a b)
-  a-difference-made : {a b : Tree} → Made at end (difference a b)
-  a-product-made : {a b : Tree} → Made at end (product a b)
-  a-minus-made : {a : Tree} → Made at end (minus a)
-  a-power-made : {p n : ℕ} {s : List Mark} {a : Tree} → Means anAtom s a → Rising at p s → suc p < end → Made at end (literalPower a p n)
-  a-raise-made : {p : ℕ} {s : List Mark} {a b : Tree} → Means anAtom s a → Rising at p s → suc p < end → Made at end (raise a p b)
+  a-number-made : {k : Span} {p v : ℕ} → at ≤ p → p < end → Made at end (number k p v)
+  an-x-made : {k : Span} → Made at end (variable k)
+  a-sum-made : {k : Span} {a b : Tree} → Made at end (sum k a b)
+  a-difference-made : {k : Span} {a b : Tree} → Made at end (difference k a b)
+  a-product-made : {k : Span} {a b : Tree} → Made at end (product k a b)
+  a-minus-made : {k : Span} {a : Tree} → Made at end (minus k a)
+  a-power-made : {k : Span} {p n : ℕ} {s : List Mark} {a : Tree} → Means anAtom s a → Rising at p s → suc p < end → Made at end (literalPower k a p n)
+  a-raise-made : {k : Span} {p : ℕ} {s : List Mark} {a b : Tree} → Means anAtom s a → Rising at p s → suc p < end → Made at end (raise k a p b)
 
 wider : {at from end upto : ℕ} {u : Tree} → at ≤ from → upto ≤ end → Made from upto u → Made at end u
 wider low high (a-number-made p q) = a-number-made (le-trans low p) (le-trans q high)
@@ -83,8 +83,8 @@ number-at nought (next-mark h R) = (h, rising-upto R)
 number-at (digits low high rest) (next-mark h R) = (h, rising-upto R)
 
 -- A power's place is behind its base, and one more place is behind that.
-power-at : {at end upto p n : ℕ} {s : List Mark} {a : Tree} → Means anAtom s a → Rising at upto s → upto ≤ p → suc p < end
-    → Made at end (literalPower a p n)
+power-at : {k : Span} {at end upto p n : ℕ} {s : List Mark} {a : Tree} → Means anAtom s a → Rising at upto s → upto ≤ p → suc p < end
+    → Made at end (literalPower k a p n)
 power-at {p = p} M R behind h = a-power-made {p = p} M (rising-within (omega arith) behind R) h
 
 -- The base of a raise and its exponent, between brackets.
@@ -137,9 +137,9 @@ stands (in-brackets {opens} closes {s} M) R q =
 
 -- ---- the place that a node knows
 pub data Placed : Tree → ℕ → Type 0 where
-  number-placed : {p v : ℕ} → Placed (number p v) p
-  power-placed : {a : Tree} {p n : ℕ} → Placed (literalPower a p n) p
-  raise-placed : {a b : Tree} {p : ℕ} → Placed (raise a p b) p
+  number-placed : {k : Span} {p v : ℕ} → Placed (number k p v) p
+  power-placed : {k : Span} {a : Tree} {p n : ℕ} → Placed (literalPower k a p n) p
+  raise-placed : {k : Span} {a b : Tree} {p : ℕ} → Placed (raise k a p b) p
 
 own-place : {u : Tree} {p at end : ℕ} → Placed u p → Made at end u → p < end
 own-place number-placed (a-number-made low high) = high
@@ -153,22 +153,22 @@ made {s} F q = stands (F .a-sum) (marked-rises 0 s (omega arith)) q
 pub placed-inside : {p : ℕ} {s : List ℕ} {t u : Tree} → Formula s t → Part u t → Placed u p → p < length s
 placed-inside F q k = own-place k (made F q)
 
-pub raise-inside : {p : ℕ} {s : List ℕ} {t a b : Tree} → Formula s t → Part (raise a p b) t → p < length s
+pub raise-inside : {k : Span} {p : ℕ} {s : List ℕ} {t a b : Tree} → Formula s t → Part (raise k a p b) t → p < length s
 raise-inside F q = placed-inside F q raise-placed
 
 -- A literal exponent's first digit stands right after its ^.
-pub literal-inside : {p n : ℕ} {s : List ℕ} {t a : Tree} → Formula s t → Part (literalPower a p n) t → suc p < length s
+pub literal-inside : {k : Span} {p n : ℕ} {s : List ℕ} {t a : Tree} → Formula s t → Part (literalPower k a p n) t → suc p < length s
 literal-inside F q = go (made F q)
   where
-    go : {at end p n : ℕ} {a : Tree} → Made at end (literalPower a p n) → suc p < end
+    go : {k : Span} {at end p n : ℕ} {a : Tree} → Made at end (literalPower k a p n) → suc p < end
     go (a-power-made M R h) = h
 
 -- What stands in the base of a ^ stands left of it.
-pub base-placed-left : {s : List ℕ} {t a b u : Tree} {p q : ℕ} → Formula s t → Part (raise a p b) t → Part u a → Placed u q → q < p
+pub base-placed-left : {k : Span} {s : List ℕ} {t a b u : Tree} {p q : ℕ} → Formula s t → Part (raise k a p b) t → Part u a → Placed u q → q < p
 base-placed-left F k l h = go (made F k) l h
   where
-    go : {at end p q : ℕ} {a b u : Tree} → Made at end (raise a p b) → Part u a → Placed u q → q < p
+    go : {k : Span} {at end p q : ℕ} {a b u : Tree} → Made at end (raise k a p b) → Part u a → Placed u q → q < p
     go (a-raise-made M R h) l k = own-place k (stands M R l)
 
-pub base-left : {s : List ℕ} {t a b c d : Tree} {p q : ℕ} → Formula s t → Part (raise a p b) t → Part (raise c q d) a → q < p
+pub base-left : {k m : Span} {s : List ℕ} {t a b c d : Tree} {p q : ℕ} → Formula s t → Part (raise k a p b) t → Part (raise m c q d) a → q < p
 base-left F k l = base-placed-left F k l raise-placed

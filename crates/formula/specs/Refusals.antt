@@ -9,7 +9,7 @@ use lib.Dec.{eqb}
 use lib.ListN.{length, getD, take, drop}
 use Rattle.formula.specs.declared.ReadAnswer.{ReadAnswer}
 use Rattle.formula.specs.Bytes.{openBracket, closeBracket}
-use Rattle.formula.specs.Tree.{Tree, number, sum, difference, product, minus, literalPower, raise, nodes, holdsX}
+use Rattle.formula.specs.Tree.{Span, Tree, number, sum, difference, product, minus, literalPower, raise, nodes, holdsX}
 use Rattle.formula.specs.Grammar.{Formula}
 use Rattle.formula.specs.Value.{valueFor}
 use Rattle.formula.specs.Words.{treeWords, treeLength, mostNodes}
@@ -39,16 +39,16 @@ pub record StopsAt (s : List ℕ) (p : ℕ) : Type 0 where
 -- `Part u t`: the tree u is t or stands in it.
 pub data Part : Tree → Tree → Type 0 where
   itself : {t : Tree} → Part t t
-  sum-left : {u a b : Tree} → Part u a → Part u (sum a b)
-  sum-right : {u a b : Tree} → Part u b → Part u (sum a b)
-  difference-left : {u a b : Tree} → Part u a → Part u (difference a b)
-  difference-right : {u a b : Tree} → Part u b → Part u (difference a b)
-  product-left : {u a b : Tree} → Part u a → Part u (product a b)
-  product-right : {u a b : Tree} → Part u b → Part u (product a b)
-  under-minus : {u a : Tree} → Part u a → Part u (minus a)
-  under-power : {u a : Tree} {p n : ℕ} → Part u a → Part u (literalPower a p n)
-  in-base : {u a b : Tree} {p : ℕ} → Part u a → Part u (raise a p b)
-  in-exponent : {u a b : Tree} {p : ℕ} → Part u b → Part u (raise a p b)
+  sum-left : {s : Span} {u a b : Tree} → Part u a → Part u (sum s a b)
+  sum-right : {s : Span} {u a b : Tree} → Part u b → Part u (sum s a b)
+  difference-left : {s : Span} {u a b : Tree} → Part u a → Part u (difference s a b)
+  difference-right : {s : Span} {u a b : Tree} → Part u b → Part u (difference s a b)
+  product-left : {s : Span} {u a b : Tree} → Part u a → Part u (product s a b)
+  product-right : {s : Span} {u a b : Tree} → Part u b → Part u (product s a b)
+  under-minus : {s : Span} {u a : Tree} → Part u a → Part u (minus s a)
+  under-power : {s : Span} {u a : Tree} {p n : ℕ} → Part u a → Part u (literalPower s a p n)
+  in-base : {s : Span} {u a b : Tree} {p : ℕ} → Part u a → Part u (raise s a p b)
+  in-exponent : {s : Span} {u a b : Tree} {p : ℕ} → Part u b → Part u (raise s a p b)
 
 -- `Fault w s n p`: the refusal number n applies to the text s at place p. A line of 01's table each; a literal exponent's first digit
 -- stands right after its ^, and is a number too.
@@ -56,13 +56,13 @@ pub data Fault (w : ℕ) (s : List ℕ) : ℕ → ℕ → Type 0 where
   too-long : 1024 < length s → Fault w s 2 1024
   too-deep : {p : ℕ} → TooDeep s p → Fault w s 3 p
   not-grammar : {p : ℕ} → StopsAt s p → Fault w s 4 p
-  number-over : {t : Tree} {p v : ℕ} → Formula s t → Part (number p v) t → 2 ^ w ≤ v → Fault w s 5 p
-  exponent-number-over : {t a : Tree} {p n : ℕ} → Formula s t → Part (literalPower a p n) t → 2 ^ w ≤ n → Fault w s 5 (suc p)
-  exponent-over : {t a : Tree} {p n : ℕ} → Formula s t → Part (literalPower a p n) t → 64 < n → Fault w s 6 (suc p)
+  number-over : {k : Span} {t : Tree} {p v : ℕ} → Formula s t → Part (number k p v) t → 2 ^ w ≤ v → Fault w s 5 p
+  exponent-number-over : {k : Span} {t a : Tree} {p n : ℕ} → Formula s t → Part (literalPower k a p n) t → 2 ^ w ≤ n → Fault w s 5 (suc p)
+  exponent-over : {k : Span} {t a : Tree} {p n : ℕ} → Formula s t → Part (literalPower k a p n) t → 64 < n → Fault w s 6 (suc p)
   too-many : {t : Tree} → Formula s t → mostNodes < nodes t → Fault w s 7 0
-  x-in-base : {t a b : Tree} {p : ℕ} → Formula s t → Part (raise a p b) t → holdsX a ≡ true → Fault w s 8 p
+  x-in-base : {k : Span} {t a b : Tree} {p : ℕ} → Formula s t → Part (raise k a p b) t → holdsX a ≡ true → Fault w s 8 p
   -- With no x in the base, any number may stand for x in its value.
-  even-base : {t a b : Tree} {p : ℕ} → Formula s t → Part (raise a p b) t → valueFor w 0 a % 2 ≡ 0 → Fault w s 8 p
+  even-base : {k : Span} {t a b : Tree} {p : ℕ} → Formula s t → Part (raise k a p b) t → valueFor w 0 a % 2 ≡ 0 → Fault w s 8 p
 
 -- "Refusals 2 to 8 take the first number that applies", and then the leftmost place.
 pub record Refused (w : ℕ) (s : List ℕ) (n p : ℕ) : Type 0 where

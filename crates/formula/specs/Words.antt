@@ -17,14 +17,14 @@ treeLength = 1 + nodesLength
 
 -- "kind (0 number, 1 x, 3 to 8 as in 01) and a word (the number's value, a literal power's n from 0 to 64, otherwise 0)".
 unfoldable pub nodeWords : Tree → List ℕ
-nodeWords (number p v) = 0 ∷ v ∷ []
-nodeWords variable = 1 ∷ 0 ∷ []
-nodeWords (sum a b) = nodeWords a ++ nodeWords b ++ 3 ∷ 0 ∷ []
-nodeWords (difference a b) = nodeWords a ++ nodeWords b ++ 4 ∷ 0 ∷ []
-nodeWords (product a b) = nodeWords a ++ nodeWords b ++ 5 ∷ 0 ∷ []
-nodeWords (minus a) = nodeWords a ++ 6 ∷ 0 ∷ []
-nodeWords (literalPower a p n) = nodeWords a ++ 7 ∷ n ∷ []
-nodeWords (raise a p b) = nodeWords a ++ nodeWords b ++ 8 ∷ 0 ∷ []
+nodeWords (number s p v) = 0 ∷ v ∷ []
+nodeWords (variable s) = 1 ∷ 0 ∷ []
+nodeWords (sum s a b) = nodeWords a ++ nodeWords b ++ 3 ∷ 0 ∷ []
+nodeWords (difference s a b) = nodeWords a ++ nodeWords b ++ 4 ∷ 0 ∷ []
+nodeWords (product s a b) = nodeWords a ++ nodeWords b ++ 5 ∷ 0 ∷ []
+nodeWords (minus s a) = nodeWords a ++ 6 ∷ 0 ∷ []
+nodeWords (literalPower s a p n) = nodeWords a ++ 7 ∷ n ∷ []
+nodeWords (raise s a p b) = nodeWords a ++ nodeWords b ++ 8 ∷ 0 ∷ []
 
 -- "The rest of the 257 words are 0."
 abbrev pub treeWords : Tree → List ℕ

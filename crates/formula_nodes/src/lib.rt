@@ -2,13 +2,18 @@
 // Refusals are in `faults`; the bytes of the text are read in `formula_digits` and `formula_readers`.
 pub mod faults;
 
+use formula::MOST_NODES;
 use formula_scan::Found;
+use formula_scan::Left;
 use formula_scan::Numeral;
+use formula_scan::PLAIN_WORDS;
+use formula_scan::SPANNED_WORDS;
 ghost use mathlib.Core.Path.{_≡_};
 ghost use mathlib.Core.Bool.{true, false, cond, _||_};
-ghost use Prim.Native.Nat.{_+_, _^_, _<_};
+ghost use Prim.Native.Nat.{_+_, _-_, _^_, _≤_, _<_};
 ghost use lib.Dec.{eqb};
 ghost use Rattle.formula.specs.Bytes.{plusSign};
+ghost use Rattle.formula.specs.Tree.{span};
 ghost use Rattle.formula_scan.specs.Readers.{put, wroteMinus, stopping, finding, withNode, bothFound, literalFound, productFound, sumFound};
 
 // The kinds of nodes.
@@ -42,25 +47,36 @@ pub fn stopped(at: usize) -> Found
     }
 }
 
-// Puts a node into the lent tree, if there is room.
-fn put(tree: &mut [u64], n: usize, kind: u64, word: u64)
-    ensures { λ _. ⌜ now (tree .exit) ≡ put (now (tree .entry)) n kind word ⌝ }
+// Puts node n into the lent tree: two words for each node, or four with its span, where each has room for them.
+fn put(tree: &mut [u64], n: usize, kind: u64, word: u64, first: usize, end: usize)
+    ensures { λ _. ⌜ now (tree .exit) ≡ put (now (tree .entry)) n kind word (span first end) ⌝ }
 {
-    if tree.len() / 2 <= n {
+    if MOST_NODES <= n {
         return;
     }
-    let first = 2 * n;
-    tree[first] = kind;
-    tree[first + 1] = word;
+    if tree.len() < PLAIN_WORDS {
+        return;
+    }
+    if tree.len() < SPANNED_WORDS {
+        let start = 2 * n;
+        tree[start] = kind;
+        tree[start + 1] = word;
+        return;
+    }
+    let start = 4 * n;
+    tree[start] = kind;
+    tree[start + 1] = word;
+    tree[start + 2] = first as u64;
+    tree[start + 3] = end as u64;
 }
 
-// Puts a node behind the nodes so far and counts it. The rest that is found of its tree is given.
-pub fn noted(tree: &mut [u64], kind: u64, word: u64, found: Found) -> Found
+// Puts a node whose text begins at `first` behind the nodes so far and counts it. The rest that is found of its tree is given.
+pub fn noted(tree: &mut [u64], kind: u64, word: u64, first: usize, found: Found) -> Found
     requires { ⌜ found .nodes < 2 ^ 63 ⌝ }
     ensures { λ r. ⌜ r ≡ withNode found ⌝ }
-    ensures { λ _. ⌜ now (tree .exit) ≡ put (now (tree .entry)) (found .nodes) kind word ⌝ }
+    ensures { λ _. ⌜ now (tree .exit) ≡ put (now (tree .entry)) (found .nodes) kind word (span first (found .at)) ⌝ }
 {
-    put(tree, found.nodes, kind, word);
+    put(tree, found.nodes, kind, word, first, found.at);
     Found {
         ok: true,
         variable: found.variable,
@@ -80,13 +96,13 @@ fn either(a: bool, b: bool) -> bool
     b
 }
 
-// What is found of two operands, one after the other, whose whole has the oddness given.
-pub fn both(left: Found, right: Found, odd: u8) -> Found
-    ensures { λ r. ⌜ r ≡ bothFound left right odd ⌝ }
+// What is found of two operands, one after the other: whether x stands in the left one, the right one, and the oddness of the whole.
+pub fn both(variable: bool, right: Found, odd: u8) -> Found
+    ensures { λ r. ⌜ r ≡ bothFound variable right odd ⌝ }
 {
     Found {
         ok: true,
-        variable: either(left.variable, right.variable),
+        variable: either(variable, right.variable),
         odd,
         at: right.at,
         nodes: right.nodes,
@@ -94,29 +110,30 @@ pub fn both(left: Found, right: Found, odd: u8) -> Found
     }
 }
 
-// As many minus nodes as there were signs.
-pub fn negated(tree: &mut [u64], power: Found, signs: usize) -> Found
+// A minus node for each sign from place `at` on, side by side before the power's first byte, the last one first.
+pub fn negated(tree: &mut [u64], at: usize, first: usize, power: Found) -> Found
     requires { ⌜ power .ok ≡ true ⌝ }
-    requires { ⌜ power .nodes + signs < 2 ^ 63 ⌝ }
-    ensures { λ r. ⌜ r ≡ finding (power .variable) (power .odd) (power .at) (power .nodes + signs) (power .fault) ⌝ }
-    ensures { λ _. ⌜ now (tree .exit) ≡ wroteMinus signs (power .nodes) (now (tree .entry)) ⌝ }
+    requires { ⌜ power .nodes + first < 2 ^ 63 ⌝ }
+    requires { ⌜ at ≤ first ⌝ }
+    ensures { λ r. ⌜ r ≡ finding (power .variable) (power .odd) (power .at) (power .nodes + (first - at)) (power .fault) ⌝ }
+    ensures { λ _. ⌜ now (tree .exit) ≡ wroteMinus (first - at) first (power .at) (power .nodes) (now (tree .entry)) ⌝ }
 {
     let mut found = power;
-    let mut i = 0;
-    while i < signs {
-        let more = noted(tree, MINUS, 0, found);
+    let mut place = first;
+    while at < place {
+        place -= 1;
+        let more = noted(tree, MINUS, 0, place, found);
         found = more;
-        i += 1;
     }
     found
 }
 
 // A literal power of what was found.
-pub fn literal_power(tree: &mut [u64], base: Found, number: Numeral) -> Found
+pub fn literal_power(tree: &mut [u64], first: usize, base: Found, number: Numeral) -> Found
     requires { ⌜ base .nodes < 2 ^ 63 ⌝ }
     requires { ⌜ base .at + 1 < 2 ^ 63 ⌝ }
     ensures { λ r. ⌜ r ≡ literalFound base number ⌝ }
-    ensures { λ _. ⌜ now (tree .exit) ≡ put (now (tree .entry)) (base .nodes) 7 (number .value) ⌝ }
+    ensures { λ _. ⌜ now (tree .exit) ≡ put (now (tree .entry)) (base .nodes) 7 (number .value) (span first (number .at)) ⌝ }
 {
     let fault = faults::lesser(base.fault, faults::literal_fault(number, base.at + 1));
     let odd = faults::literal_odd(base.odd, number);
@@ -128,7 +145,7 @@ pub fn literal_power(tree: &mut [u64], base: Found, number: Numeral) -> Found
         nodes: base.nodes,
         fault,
     };
-    noted(tree, LITERAL_POWER, number.value, whole)
+    noted(tree, LITERAL_POWER, number.value, first, whole)
 }
 
 // Nothing read yet.
@@ -160,34 +177,46 @@ pub fn beyond(found: Found) -> Found
     }
 }
 
-// The product of left and right, or right alone.
-pub fn joined_product(tree: &mut [u64], joined: bool, left: Found, right: Found) -> Found
+// The product of left and right, or right alone where there is no sign.
+pub fn joined_product(tree: &mut [u64], left: Left, right: Found) -> Found
     requires { ⌜ right .nodes < 2 ^ 63 ⌝ }
     requires { ⌜ left .odd < 2 ⌝ }
     requires { ⌜ right .odd < 2 ⌝ }
-    ensures { λ r. ⌜ r ≡ cond joined (productFound left right) right ⌝ }
-    ensures { λ _. ⌜ now (tree .exit) ≡ cond joined (put (now (tree .entry)) (right .nodes) 5 0) (now (tree .entry)) ⌝ }
+    ensures { λ r. ⌜ r ≡ cond (eqb (left .sign) 0) right (productFound (left .variable) (left .odd) right) ⌝ }
+    ensures { λ _. ⌜ now (tree .exit) ≡ cond (eqb (left .sign) 0) (now (tree .entry)) (put (now (tree .entry)) (right .nodes) 5 0 (span (left .first) (right .at))) ⌝ }
 {
-    if !joined {
+    if left.sign == 0 {
         return right;
     }
     let odd = left.odd * right.odd;
-    noted(tree, PRODUCT, 0, both(left, right, odd))
+    noted(
+        tree,
+        PRODUCT,
+        0,
+        left.first,
+        both(left.variable, right, odd),
+    )
 }
 
 // The sum or difference of left and right, by the sign between them, or right alone where there is none.
-pub fn joined_sum(tree: &mut [u64], sign: u8, left: Found, right: Found) -> Found
+pub fn joined_sum(tree: &mut [u64], left: Left, right: Found) -> Found
     requires { ⌜ right .nodes < 2 ^ 63 ⌝ }
     requires { ⌜ left .odd < 2 ⌝ }
     requires { ⌜ right .odd < 2 ⌝ }
-    ensures { λ r. ⌜ r ≡ cond (eqb sign 0) right (sumFound left right) ⌝ }
-    ensures { λ _. ⌜ now (tree .exit) ≡ cond (eqb sign 0) (now (tree .entry)) (put (now (tree .entry)) (right .nodes) (cond (eqb sign plusSign) 3 4) 0) ⌝ }
+    ensures { λ r. ⌜ r ≡ cond (eqb (left .sign) 0) right (sumFound (left .variable) (left .odd) right) ⌝ }
+    ensures { λ _. ⌜ now (tree .exit) ≡ cond (eqb (left .sign) 0) (now (tree .entry)) (put (now (tree .entry)) (right .nodes) (cond (eqb (left .sign) plusSign) 3 4) 0 (span (left .first) (right .at))) ⌝ }
 {
-    if sign == 0 {
+    if left.sign == 0 {
         return right;
     }
     let odd = (left.odd + right.odd) % 2;
-    noted(tree, sum_kind(sign), 0, both(left, right, odd))
+    noted(
+        tree,
+        sum_kind(left.sign),
+        0,
+        left.first,
+        both(left.variable, right, odd),
+    )
 }
 
 fn sum_kind(sign: u8) -> u64

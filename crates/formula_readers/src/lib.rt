@@ -16,6 +16,8 @@ use formula_nodes::negated;
 use formula_nodes::noted;
 use formula_nodes::starting;
 use formula_nodes::stopped;
+use formula_packing::held;
+use formula_packing::left_of;
 use formula_packing::packed;
 use formula_packing::unpacked;
 use formula_scan::Found;
@@ -89,7 +91,7 @@ fn read_atom(text: &[u8], tree: &mut [u64], at: usize, nodes: usize, fault: u64)
             nodes,
             fault,
         };
-        return noted(tree, VARIABLE, 0, letter);
+        return noted(tree, VARIABLE, 0, at, letter);
     }
     if !is_digit(byte) {
         return stopped(at);
@@ -103,7 +105,7 @@ fn read_atom(text: &[u8], tree: &mut [u64], at: usize, nodes: usize, fault: u64)
         nodes,
         fault: faults::lesser(fault, faults::number_fault(number, at)),
     };
-    noted(tree, NUMBER, number.value, numeral)
+    noted(tree, NUMBER, number.value, at, numeral)
 }
 
 // A power: an atom, perhaps followed by one ^ and an exponent, a number or a sum in round brackets.
@@ -126,7 +128,7 @@ fn read_power(text: &[u8], tree: &mut [u64], at: usize, nodes: usize, fault: u64
     let byte = byte_at(text, place);
     if is_digit(byte) {
         let number = read_number(text, place);
-        return literal_power(tree, base, number);
+        return literal_power(tree, at, base, number);
     }
     if byte != b'(' {
         return stopped(place);
@@ -139,7 +141,7 @@ fn read_power(text: &[u8], tree: &mut [u64], at: usize, nodes: usize, fault: u64
     if !exponent.ok {
         return exponent;
     }
-    noted(tree, RAISE, 0, both(base, exponent, 1))
+    noted(tree, RAISE, 0, at, both(base.variable, exponent, 1))
 }
 
 // A factor: any number of leading minus signs, then a power.
@@ -154,7 +156,7 @@ fn read_factor(text: &[u8], tree: &mut [u64], at: usize, nodes: usize, fault: u6
     if !power.ok {
         return power;
     }
-    negated(tree, power, first - at)
+    negated(tree, at, first, power)
 }
 
 // A product: factors joined by *, left to right.
@@ -164,20 +166,21 @@ fn read_product(text: &[u8], tree: &mut [u64], at: usize, nodes: usize, fault: u
     requires { ⌜ Packs (now text) fault ⌝ }
     ensures { λ r. ⌜ ProductRead 64 (now (text .entry)) at nodes fault (now (tree .entry)) r (now (tree .exit)) ⌝ }
 {
-    let mut left = starting(at, nodes, fault);
-    let mut joined = false;
+    let mut next = starting(at, nodes, fault);
+    let mut waits = held(at, 0, next);
     loop {
-        let right = read_factor(text, tree, left.at, left.nodes, left.fault);
+        let right = read_factor(text, tree, next.at, next.nodes, next.fault);
         if !right.ok {
             return right;
         }
-        let whole = joined_product(tree, joined, left, right);
+        let left = left_of(waits);
+        let whole = joined_product(tree, left, right);
         let end = whole.at;
         if byte_at(text, end) != b'*' {
             return whole;
         }
-        left = beyond(whole);
-        joined = true;
+        next = beyond(whole);
+        waits = held(left.first, b'*', next);
     }
 }
 
@@ -188,19 +191,20 @@ pub fn read_sum(text: &[u8], tree: &mut [u64], at: usize, nodes: usize, fault: u
     requires { ⌜ Packs (now text) fault ⌝ }
     ensures { λ r. ⌜ SumRead 64 (now (text .entry)) at nodes fault (now (tree .entry)) (unpacked r) (now (tree .exit)) ⌝ }
 {
-    let mut left = starting(at, nodes, fault);
-    let mut sign = 0;
+    let mut next = starting(at, nodes, fault);
+    let mut waits = held(at, 0, next);
     loop {
-        let right = read_product(text, tree, left.at, left.nodes, left.fault);
+        let right = read_product(text, tree, next.at, next.nodes, next.fault);
         if !right.ok {
             return packed(stopped(right.at));
         }
-        let whole = joined_sum(tree, sign, left, right);
-        let next = byte_at(text, whole.at);
-        if !is_sign(next) {
+        let left = left_of(waits);
+        let whole = joined_sum(tree, left, right);
+        let sign = byte_at(text, whole.at);
+        if !is_sign(sign) {
             return packed(whole);
         }
-        left = beyond(whole);
-        sign = next;
+        next = beyond(whole);
+        waits = held(left.first, sign, next);
     }
 }

@@ -8,7 +8,7 @@ use Prim.Native.Nat.{ℕ, _%_, _^_, _≤_, _<_}
 use native.Mathlib.Omega.{arith}
 use lib.ListN.{drop}
 use Rattle.formula.specs.declared.ReadAnswer.{ReadAnswer}
-use Rattle.formula.specs.Tree.{Tree, number, literalPower, nodes, holdsX}
+use Rattle.formula.specs.Tree.{Span, Tree, number, literalPower, nodes, holdsX}
 use Rattle.formula.specs.Value.{valueFor}
 use Rattle.formula.specs.Refusals.{Part, number-over, exponent-over, too-many, x-in-base, even-base, Refused, Accepted, Reading, too-short, refused, accepted}
 use Rattle.formula.specs.Words.{treeWords, treeLength, mostNodes}
@@ -45,20 +45,20 @@ reading-unique {lent = lent} (accepted h A) (accepted k B) =
 
 -- ---- what an accepted tree has
 pub accepted-fits : {w : ℕ} {s : List ℕ} {t : Tree} → Accepted w s t
-    → ((p v : ℕ) → Part (number p v) t → v < 2 ^ w) × ((a : Tree) (p n : ℕ) → Part (literalPower a p n) t → n ≤ 64) × (nodes t ≤ mostNodes)
+    → ((k : Span) (p v : ℕ) → Part (number k p v) t → v < 2 ^ w) × ((k : Span) (a : Tree) (p n : ℕ) → Part (literalPower k a p n) t → n ≤ 64) × (nodes t ≤ mostNodes)
 accepted-fits {w} {s} {t} A = (numbers, exponents, few)
   where
-    numbers : (p v : ℕ) → Part (number p v) t → v < 2 ^ w
-    numbers p v k = let h : 2 ^ w ≤ v → ⊥ = λ over. A .faultless _ _ (number-over (A .means) k over) in omega arith
+    numbers : (s : Span) (p v : ℕ) → Part (number s p v) t → v < 2 ^ w
+    numbers s p v k = let h : 2 ^ w ≤ v → ⊥ = λ over. A .faultless _ _ (number-over (A .means) k over) in omega arith
 
-    exponents : (a : Tree) (p n : ℕ) → Part (literalPower a p n) t → n ≤ 64
-    exponents a p n k = let h : 64 < n → ⊥ = λ over. A .faultless _ _ (exponent-over (A .means) k over) in omega arith
+    exponents : (s : Span) (a : Tree) (p n : ℕ) → Part (literalPower s a p n) t → n ≤ 64
+    exponents s a p n k = let h : 64 < n → ⊥ = λ over. A .faultless _ _ (exponent-over (A .means) k over) in omega arith
 
     few : nodes t ≤ mostNodes
     few = let h : mostNodes < nodes t → ⊥ = λ many. A .faultless _ _ (too-many (A .means) many) in omega arith
 
 pub accepted-base : {w : ℕ} {s : List ℕ} {t : Tree} → Accepted w s t → OddBases w t
-accepted-base {w} A a b p k = (without-x (holdsX a) refl, odd)
+accepted-base {w} A s a b p k = (without-x (holdsX a) refl, odd)
   where
     without-x : (x : Bool) → holdsX a ≡ x → x ≡ false
     without-x true e = absurd (A .faultless _ _ (x-in-base (A .means) k e))

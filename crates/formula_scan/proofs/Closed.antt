@@ -6,7 +6,7 @@ use mathlib.Core.List.{List, _∷_, _++_}
 use Prim.Native.Nat.{ℕ}
 use lib.ListN.{replicate}
 use Rattle.formula.specs.Bytes.{bytes, openBracket, closeBracket, letterX}
-use Rattle.formula.specs.Tree.{Tree, number, variable, sum, difference, product, minus, literalPower, raise, nodes, holdsX}
+use Rattle.formula.specs.Tree.{span, Tree, number, variable, sum, difference, product, minus, literalPower, raise, nodes, holdsX}
 use Rattle.formula.specs.Grammar.{Formula}
 use Rattle.formula.specs.Refusals.{StopsAt}
 use Rattle.formula_scan.specs.Scan.{byteOf, negatives, productWith, sumWith, closed, afterPower, afterAtom, afterDigit, afterLiteralDigit, beforeOperand, beforeExponent, step, Outcome, reads, stops, ended, ending, run, scanned}
@@ -28,15 +28,16 @@ unfolding decides
 leaves s p e = stops-at s p e
 
 -- ---- what small texts mean
-pub left-to-right : Formula (bytes "5-x-1") (difference (difference (number 0 5) variable) (number 4 1))
+pub left-to-right : Formula (bytes "5-x-1") (difference (span 0 5) (difference (span 0 3) (number (span 0 1) 0 5) (variable (span 2 3))) (number (span 4 5) 4 1))
 unfolding decides
 left-to-right = means _ _ refl
 
-pub power-first : Formula (bytes "-2*(x+10)^2") (product (minus (number 1 2)) (literalPower (sum variable (number 6 10)) 9 2))
+pub power-first : Formula (bytes "-2*(x+10)^2") (product (span 0 11) (minus (span 0 2) (number (span 1 2) 1 2))
+    (literalPower (span 3 11) (sum (span 4 8) (variable (span 4 5)) (number (span 6 8) 6 10)) 9 2))
 unfolding decides
 power-first = means _ _ refl
 
-pub raised-to-a-sum : Formula (bytes "3^(-x)") (raise (number 0 3) 1 (minus variable))
+pub raised-to-a-sum : Formula (bytes "3^(-x)") (raise (span 0 6) (number (span 0 1) 0 3) 1 (minus (span 3 5) (variable (span 4 5))))
 unfolding decides
 raised-to-a-sum = means _ _ refl
 
@@ -99,7 +100,7 @@ pub even-base-refused : verdict (bytes "2^(3)") ≡ refused 8 1
 unfolding judges
 even-base-refused = refl
 
-pub square-accepted : verdict (bytes "x^2") ≡ accepted (literalPower variable 1 2)
+pub square-accepted : verdict (bytes "x^2") ≡ accepted (literalPower (span 0 3) (variable (span 0 1)) 1 2)
 unfolding judges
 square-accepted = refl
 

@@ -11,7 +11,7 @@ use lib.Dec.{eqb, leb, ltb}
 use lib.ListN.{length}
 use borrow.Author.Tests.{eqb-true, eqb-false, leb-true, leb-false, lt-leb, ltb-true, ltb-false, lt-ltb, le-ltb}
 use Rattle.formula.specs.Words.{mostNodes}
-use Rattle.formula.specs.Tree.{Tree, number, variable, sum, difference, product, minus, literalPower, raise, nodes, holdsX}
+use Rattle.formula.specs.Tree.{Span, Tree, number, variable, sum, difference, product, minus, literalPower, raise, nodes, holdsX}
 use Rattle.formula.specs.Grammar.{Formula}
 use Rattle.formula.specs.Value.{valueFor}
 use Rattle.formula.specs.Refusals.{TooDeep, Part, itself, sum-left, sum-right, difference-left, difference-right, product-left, product-right, under-minus, under-power, in-base, in-exponent, Fault, too-long, too-deep, not-grammar, number-over, exponent-number-over, exponent-over, too-many, x-in-base, even-base, Refused, Accepted}
@@ -38,14 +38,14 @@ part-of k (in-exponent l) = in-exponent (part-of k l)
 -- ---- the least of the faults of the nodes
 -- What is noted of one node.
 abbrev own : ℕ → Tree → ℕ
-own w (number p v) = numberFault w p v
-own w variable = noFault
-own w (sum a b) = noFault
-own w (difference a b) = noFault
-own w (product a b) = noFault
-own w (minus a) = noFault
-own w (literalPower a p n) = literalFault w p n
-own w (raise a p b) = baseFault (holdsX a) (parity a) p
+own w (number s p v) = numberFault w p v
+own w (variable s) = noFault
+own w (sum s a b) = noFault
+own w (difference s a b) = noFault
+own w (product s a b) = noFault
+own w (minus s a) = noFault
+own w (literalPower s a p n) = literalFault w p n
+own w (raise s a p b) = baseFault (holdsX a) (parity a) p
 
 -- The lesser of two numbers is one of them.
 lesser : (P : ℕ → Type 0) (a b : ℕ) → P a → P b → P (min a b)
@@ -59,44 +59,44 @@ module _ (w : ℕ) where
   -- The faults of a tree, after f, are f or what is noted of one of its nodes;
   faulted-one : (P : ℕ → Type 0) (t : Tree) (f : ℕ) → P f → ((u : Tree) → Part u t → P (own w u)) → P (faulted w t f)
   unfolding faulted
-  faulted-one P (number p v) f start each = lesser P _ _ start (each (number p v) itself)
-  faulted-one P variable f start each = start
-  faulted-one P (sum a b) f start each =
+  faulted-one P (number s p v) f start each = lesser P _ _ start (each (number s p v) itself)
+  faulted-one P (variable s) f start each = start
+  faulted-one P (sum s a b) f start each =
       faulted-one P b _ (faulted-one P a f start (λ u k. each u (sum-left k))) (λ u k. each u (sum-right k))
-  faulted-one P (difference a b) f start each =
+  faulted-one P (difference s a b) f start each =
       faulted-one P b _ (faulted-one P a f start (λ u k. each u (difference-left k))) (λ u k. each u (difference-right k))
-  faulted-one P (product a b) f start each =
+  faulted-one P (product s a b) f start each =
       faulted-one P b _ (faulted-one P a f start (λ u k. each u (product-left k))) (λ u k. each u (product-right k))
-  faulted-one P (minus a) f start each = faulted-one P a f start (λ u k. each u (under-minus k))
-  faulted-one P (literalPower a p n) f start each =
-      lesser P _ _ (faulted-one P a f start (λ u k. each u (under-power k))) (each (literalPower a p n) itself)
-  faulted-one P (raise a p b) f start each =
-      faulted-one P b _ (lesser P _ _ (faulted-one P a f start (λ u k. each u (in-base k))) (each (raise a p b) itself))
+  faulted-one P (minus s a) f start each = faulted-one P a f start (λ u k. each u (under-minus k))
+  faulted-one P (literalPower s a p n) f start each =
+      lesser P _ _ (faulted-one P a f start (λ u k. each u (under-power k))) (each (literalPower s a p n) itself)
+  faulted-one P (raise s a p b) f start each =
+      faulted-one P b _ (lesser P _ _ (faulted-one P a f start (λ u k. each u (in-base k))) (each (raise s a p b) itself))
       (λ u k. each u (in-exponent k))
 
   -- and they are not above f,
   faulted-below : (t : Tree) (f : ℕ) → faulted w t f ≤ f
   unfolding faulted
-  faulted-below (number p v) f = min-le-left _ _
-  faulted-below variable f = le-refl f
-  faulted-below (sum a b) f = le-trans (faulted-below b _) (faulted-below a f)
-  faulted-below (difference a b) f = le-trans (faulted-below b _) (faulted-below a f)
-  faulted-below (product a b) f = le-trans (faulted-below b _) (faulted-below a f)
-  faulted-below (minus a) f = faulted-below a f
-  faulted-below (literalPower a p n) f = le-trans (min-le-left _ _) (faulted-below a f)
-  faulted-below (raise a p b) f = le-trans (faulted-below b _) (le-trans (min-le-left _ _) (faulted-below a f))
+  faulted-below (number s p v) f = min-le-left _ _
+  faulted-below (variable s) f = le-refl f
+  faulted-below (sum s a b) f = le-trans (faulted-below b _) (faulted-below a f)
+  faulted-below (difference s a b) f = le-trans (faulted-below b _) (faulted-below a f)
+  faulted-below (product s a b) f = le-trans (faulted-below b _) (faulted-below a f)
+  faulted-below (minus s a) f = faulted-below a f
+  faulted-below (literalPower s a p n) f = le-trans (min-le-left _ _) (faulted-below a f)
+  faulted-below (raise s a p b) f = le-trans (faulted-below b _) (le-trans (min-le-left _ _) (faulted-below a f))
 
   -- nor above what is noted of any node.
   faulted-itself : (t : Tree) (f : ℕ) → f ≤ noFault → faulted w t f ≤ own w t
   unfolding faulted
-  faulted-itself (number p v) f h = min-le-right _ _
-  faulted-itself variable f h = h
-  faulted-itself (sum a b) f h = le-trans (faulted-below (sum a b) f) h
-  faulted-itself (difference a b) f h = le-trans (faulted-below (difference a b) f) h
-  faulted-itself (product a b) f h = le-trans (faulted-below (product a b) f) h
-  faulted-itself (minus a) f h = le-trans (faulted-below (minus a) f) h
-  faulted-itself (literalPower a p n) f h = min-le-right _ _
-  faulted-itself (raise a p b) f h = le-trans (faulted-below b _) (min-le-right _ _)
+  faulted-itself (number s p v) f h = min-le-right _ _
+  faulted-itself (variable s) f h = h
+  faulted-itself (sum s a b) f h = le-trans (faulted-below (sum s a b) f) h
+  faulted-itself (difference s a b) f h = le-trans (faulted-below (difference s a b) f) h
+  faulted-itself (product s a b) f h = le-trans (faulted-below (product s a b) f) h
+  faulted-itself (minus s a) f h = le-trans (faulted-below (minus s a) f) h
+  faulted-itself (literalPower s a p n) f h = min-le-right _ _
+  faulted-itself (raise s a p b) f h = le-trans (faulted-below b _) (min-le-right _ _)
 
   faulted-least : {u t : Tree} → Part u t → (f : ℕ) → f ≤ noFault → faulted w t f ≤ own w u
   unfolding faulted
@@ -149,14 +149,14 @@ module _ (w : ℕ) (pos : 0 < w) {s : List ℕ} {t : Tree} (M : Formula s t) whe
   below {u = u} N k = faulted-least w (subst (Part u) (unambiguous N M) k) noFault (le-refl noFault)
 
   -- A base is judged by its value's parity where no fault further left is noted.
-  base-parity : {a b : Tree} {p : ℕ} → Part (raise a p b) t → faultCode 8 p ≤ noted w t → holdsX a ≡ false → valueFor w 0 a % 2 ≡ parity a
-  base-parity {a} k least none = parity-noted w 0 pos a none (λ c d q l. good c q (inner c d q l) .1)
+  base-parity : {m : Span} {a b : Tree} {p : ℕ} → Part (raise m a p b) t → faultCode 8 p ≤ noted w t → holdsX a ≡ false → valueFor w 0 a % 2 ≡ parity a
+  base-parity {a = a} k least none = parity-noted w 0 pos a none (λ m c d q l. good c q (inner m c d q l) .1)
     where
-      inner : (c d : Tree) (q : ℕ) → Part (raise c q d) a → faultCode 8 q < baseFault (holdsX c) (parity c) q
-      inner c d q l = lt-of-lt-of-le (omega (arith, base-left M k l)) (below M (part-of (in-base l) k))
+      inner : (m : Span) (c d : Tree) (q : ℕ) → Part (raise m c q d) a → faultCode 8 q < baseFault (holdsX c) (parity c) q
+      inner m c d q l = lt-of-lt-of-le (omega (arith, base-left M k l)) (below M (part-of (in-base l) k))
 
-  even-noted : {a b : Tree} {p : ℕ} → Part (raise a p b) t → valueFor w 0 a % 2 ≡ 0 → noted w t ≤ faultCode 8 p
-  even-noted {a} {p = p} k even = go (leb (noted w t) (faultCode 8 p)) refl
+  even-noted : {m : Span} {a b : Tree} {p : ℕ} → Part (raise m a p b) t → valueFor w 0 a % 2 ≡ 0 → noted w t ≤ faultCode 8 p
+  even-noted {a = a} {p = p} k even = go (leb (noted w t) (faultCode 8 p)) refl
     where
       go : (h : Bool) → leb (noted w t) (faultCode 8 p) ≡ h → noted w t ≤ faultCode 8 p
       go true e = leb-true (noted w t) (faultCode 8 p) e
@@ -178,18 +178,18 @@ module _ (w : ℕ) (pos : 0 < w) {s : List ℕ} {t : Tree} (M : Formula s t) whe
   code-least (too-many N h) low =
       le-trans (min-le-right (noted w t) _) (rw (lt-ltb mostNodes (nodes t) (subst (λ u. mostNodes < nodes u) (unambiguous N M) h)) (le-refl (faultCode 7 0)))
   code-least (x-in-base {p = p} N k h) low = within (faultCode 8 p) N k (rw h (le-refl (faultCode 8 p)))
-  code-least (even-base {a = a} {b} {p} N k h) low =
-      le-trans (min-le-left (noted w t) _) (even-noted (subst (Part (raise a p b)) (unambiguous N M) k) h)
+  code-least (even-base {k = m} {a = a} {b} {p} N k h) low =
+      le-trans (min-le-left (noted w t) _) (even-noted (subst (Part (raise m a p b)) (unambiguous N M) k) h)
 
   -- What is noted of a node, and then of the tree, is a fault's code. Of a base this holds where it is the least.
-  number-coded : {p v : ℕ} → Part (number p v) t → Coded w s (numberFault w p v)
-  number-coded {p} {v} k = go (ltb v (2 ^ w)) refl
+  number-coded : {m : Span} {p v : ℕ} → Part (number m p v) t → Coded w s (numberFault w p v)
+  number-coded {p = p} {v} k = go (ltb v (2 ^ w)) refl
     where
       go : (h : Bool) → ltb v (2 ^ w) ≡ h → Coded w s (cond h noFault (faultCode 5 p))
       go true e = nothing w s
       go false e = known (number-over M k (ltb-false v (2 ^ w) e)) refl
 
-  literal-coded : {a : Tree} {p n : ℕ} → Part (literalPower a p n) t → Coded w s (literalFault w p n)
+  literal-coded : {m : Span} {a : Tree} {p n : ℕ} → Part (literalPower m a p n) t → Coded w s (literalFault w p n)
   literal-coded {p = p} {n} k = go (ltb n (2 ^ w)) (leb n 64) refl refl
     where
       go : (h l : Bool) → ltb n (2 ^ w) ≡ h → leb n 64 ≡ l → Coded w s (cond h (cond l noFault (faultCode 6 (p + 1))) (faultCode 5 (p + 1)))
@@ -197,9 +197,9 @@ module _ (w : ℕ) (pos : 0 < w) {s : List ℕ} {t : Tree} (M : Formula s t) whe
       go true false e i = known (exponent-over M k (leb-false n 64 i)) (omega arith)
       go false l e i = known (exponent-number-over M k (ltb-false n (2 ^ w) e)) (omega arith)
 
-  base-coded : {a b : Tree} {p : ℕ} → Part (raise a p b) t → noted w t ≡ baseFault (holdsX a) (parity a) p
+  base-coded : {m : Span} {a b : Tree} {p : ℕ} → Part (raise m a p b) t → noted w t ≡ baseFault (holdsX a) (parity a) p
       → Coded w s (baseFault (holdsX a) (parity a) p)
-  base-coded {a} {p = p} k = go (holdsX a) (eqb (parity a) 0) refl refl
+  base-coded {a = a} {p = p} k = go (holdsX a) (eqb (parity a) 0) refl refl
     where
       go : (x even : Bool) → holdsX a ≡ x → eqb (parity a) 0 ≡ even → noted w t ≡ cond (x || even) (faultCode 8 p) noFault
           → Coded w s (cond (x || even) (faultCode 8 p) noFault)
@@ -208,14 +208,14 @@ module _ (w : ℕ) (pos : 0 < w) {s : List ℕ} {t : Tree} (M : Formula s t) whe
       go false false i j e = nothing w s
 
   node-coded : (u : Tree) → Part u t → noted w t ≡ own w u → Coded w s (own w u)
-  node-coded (number p v) k e = number-coded k
-  node-coded variable k e = nothing w s
-  node-coded (sum a b) k e = nothing w s
-  node-coded (difference a b) k e = nothing w s
-  node-coded (product a b) k e = nothing w s
-  node-coded (minus a) k e = nothing w s
-  node-coded (literalPower a p n) k e = literal-coded k
-  node-coded (raise a p b) k e = base-coded k e
+  node-coded (number m p v) k e = number-coded k
+  node-coded (variable m) k e = nothing w s
+  node-coded (sum m a b) k e = nothing w s
+  node-coded (difference m a b) k e = nothing w s
+  node-coded (product m a b) k e = nothing w s
+  node-coded (minus m a) k e = nothing w s
+  node-coded (literalPower m a p n) k e = literal-coded k
+  node-coded (raise m a p b) k e = base-coded k e
 
   count-coded : Coded w s (cond (ltb mostNodes (nodes t)) (faultCode 7 0) noFault)
   count-coded = go (ltb mostNodes (nodes t)) refl

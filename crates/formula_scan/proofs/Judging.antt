@@ -2,21 +2,19 @@
 use mathlib.Core.Path.{_≡_, refl, ap, _∙_}
 use mathlib.Core.Bool.{Bool, true, false}
 use mathlib.Core.Logic.{_⊎_, inl, inr}
-use mathlib.Core.List.{List, _∷_, _++_}
+use mathlib.Core.List.{List}
 use Prim.Native.Nat.{ℕ, _≤_, _<_}
 use native.Mathlib.Omega.{arith}
 use lib.Dec.{ltb}
-use lib.ListN.{length, getD, take, drop, set, replicate, length-replicate}
-use lib.Seq.{drop-length, drop-at, take-at, length-take-le}
+use lib.ListN.{length, getD, drop}
+use lib.Seq.{drop-length}
 use borrow.Author.Tests.{ltb-true, ltb-false}
 use Rattle.formula_scan.specs.declared.Found.{Found}
-use Rattle.formula.specs.declared.ReadAnswer.{ReadAnswer}
-use Rattle.formula.specs.Tree.{Tree, nodes}
+use Rattle.formula.specs.Tree.{span, Tree, nodes}
 use Rattle.formula.specs.Grammar.{Formula}
-use Rattle.formula.specs.Refusals.{TooDeep, Fault, too-long, too-deep, not-grammar, number-over, exponent-number-over, exponent-over, too-many, x-in-base, even-base, Accepted, Reading, refused, accepted}
-use Rattle.formula.specs.Words.{treeWords, nodesLength, treeLength}
-use Rattle.formula_scan.specs.Scan.{Byte, plusByte, minusByte, starByte, caretByte, openByte, closeByte, xByte, zeroByte, digitByte, otherByte, byteOf, bottom, fresh, powered, stopped, afterPower, closed, step, sumWith, productWith, negatives, Outcome, reads, stops, ended, ending, run, scanned}
-use Rattle.formula_scan.specs.Readers.{wrote, SumRead, DeepAt, Judged, refuses, accepts}
+use Rattle.formula.specs.Refusals.{TooDeep, Fault, too-long, too-deep, not-grammar, number-over, exponent-number-over, exponent-over, too-many, x-in-base, even-base}
+use Rattle.formula_scan.specs.Scan.{Byte, plusByte, minusByte, starByte, caretByte, openByte, closeByte, xByte, zeroByte, digitByte, otherByte, byteOf, piece, bottom, fresh, powered, stopped, afterPower, closed, step, sumWith, productWith, negatives, Outcome, reads, stops, ended, ending, run, scanned}
+use Rattle.formula_scan.specs.Readers.{wrote, SumRead, DeepAt, Judged, refuses}
 use Rattle.formula_scan.proofs.Scanning.{Is, byte-is}
 use Rattle.formula_scan.proofs.Steps.{run-halts}
 use Rattle.formula_scan.proofs.Ways.{got, lost, WholeBracket}
@@ -66,9 +64,9 @@ module _ {w : ℕ} (l : List ℕ) (f : ℕ) (out : List ℕ) (r : Found) (now : 
   unfolding step afterPower closed
   scanned-short whole h =
       whole .runs bottom
-      ∙ run-halts (powered (fresh bottom) (whole .t)) l (r .at) h (go (byteOf (getD l (r .at) 0)) (byte-is (getD l (r .at) 0)))
+      ∙ run-halts (powered (fresh bottom) (piece (span 0 (r .at)) (whole .t))) l (r .at) h (go (byteOf (getD l (r .at) 0)) (byte-is (getD l (r .at) 0)))
     where
-      go : (b : Byte) → Is b (getD l (r .at) 0) → afterPower (fresh bottom) (whole .t) (r .at) b ≡ stopped (r .at)
+      go : (b : Byte) → Is b (getD l (r .at) 0) → afterPower (fresh bottom) (piece (span 0 (r .at)) (whole .t)) (r .at) b ≡ stopped (r .at)
       go plusByte i = absurd (whole .next .1 i)
       go minusByte i = absurd (whole .next .2 i)
       go starByte i = absurd (whole .next .0 i)
@@ -86,7 +84,7 @@ module _ {w : ℕ} (l : List ℕ) (f : ℕ) (out : List ℕ) (r : Found) (now : 
   whole-formula whole h =
       sound l (whole .t)
       (whole .runs bottom
-      ∙ ap (λ s. run (powered (fresh bottom) (whole .t)) (r .at) s) (ap (λ k. drop k l) (same (whole .inside)) ∙ drop-length l))
+      ∙ ap (λ s. run (powered (fresh bottom) (piece (span 0 (r .at)) (whole .t))) (r .at) s) (ap (λ k. drop k l) (same (whole .inside)) ∙ drop-length l))
     where
       same : r .at ≤ length l → r .at ≡ length l
       same k = omega arith
@@ -110,22 +108,6 @@ module _ {w : ℕ} (l : List ℕ) (f : ℕ) (out : List ℕ) (r : Found) (now : 
       go : (b : Bool) → r .ok ≡ b → (r .nodes ≡ nodes t) × (now ≡ wrote w t 0 out)
       go true e = let whole = got read e in reached whole (ltb (r .at) (length l)) refl
       go false e = absurd (clash (r .at) (lost read e bottom))
-
--- The first 257 words, cleared, put back.
-pub tree-cleared : (lent zeros : List ℕ) → treeLength ≤ length lent → zeros ≡ replicate (length (take treeLength lent)) 0
-    → zeros ++ drop treeLength lent ≡ replicate treeLength 0 ++ drop treeLength lent
-tree-cleared lent zeros h e = ap (λ l. l ++ drop treeLength lent) (e ∙ ap (λ n. replicate n 0) (length-take-le treeLength lent h))
-
--- What lies behind a part of a slice, put back.
-pub tree-put-back : (lent cleared part : List ℕ) (count : ℕ) → cleared ≡ replicate treeLength 0 ++ drop treeLength lent
-    → set (take 1 cleared ++ (part ++ drop nodesLength (drop 1 cleared))) 0 count ≡ count ∷ part ++ drop treeLength lent
-tree-put-back lent cleared part count e =
-    ap (λ l. set (take 1 l ++ (part ++ drop nodesLength (drop 1 l))) 0 count) e
-    ∙ ap (λ l. count ∷ part ++ l) (drop-at (replicate nodesLength 0) (drop treeLength lent) nodesLength (length-replicate {A = ℕ} nodesLength 0))
-
-pub tree-part : (lent cleared : List ℕ) → cleared ≡ replicate treeLength 0 ++ drop treeLength lent → take nodesLength (drop 1 cleared) ≡ replicate nodesLength 0
-tree-part lent cleared e =
-    ap (λ l. take nodesLength (drop 1 l)) e ∙ take-at (replicate nodesLength 0) (drop treeLength lent) nodesLength (length-replicate {A = ℕ} nodesLength 0)
 
 -- ---- 4: not in the grammar
 module _ {w : ℕ} (l : List ℕ) (short : length l ≤ 1024) (flat : (q : ℕ) → TooDeep l q → ⊥) where
@@ -154,14 +136,3 @@ fault-number (exponent-over a b c) = omega arith
 fault-number (too-many a b) = omega arith
 fault-number (x-in-base a b c) = omega arith
 fault-number (even-base a b c) = omega arith
-
--- A refused text alters nothing.
-pub reading-refused : {w : ℕ} (l lent : List ℕ) (answer : ReadAnswer) → treeLength ≤ length lent → Judged w l answer → (answer .number ≡ 0 → ⊥)
-    → Reading w l lent answer lent
-reading-refused l lent _ h (refuses r) some = refused h r
-reading-refused l lent _ h (accepts a) some = absurd (some refl)
-
-pub reading-accepted : {w : ℕ} (l lent : List ℕ) (answer : ReadAnswer) (now : List ℕ) → treeLength ≤ length lent → Judged w l answer → answer .number ≡ 0
-    → ((t : Tree) → Accepted w l t → now ≡ treeWords t ++ drop treeLength lent) → Reading w l lent answer now
-reading-accepted l lent _ now h (refuses r) nought writes = absurd (omega (arith, fault-number (r .applies)))
-reading-accepted l lent _ now h (accepts {t = t} a) nought writes = rw (writes t a) (accepted h a)

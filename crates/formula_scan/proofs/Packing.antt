@@ -11,9 +11,9 @@ use Rattle.formula_scan.specs.declared.Found.{Found}
 use Rattle.formula.specs.declared.ReadAnswer.{ReadAnswer}
 use Rattle.formula.specs.Refusals.{too-long}
 use Rattle.formula.specs.Tree.{Tree, number, variable, sum, difference, product, minus, literalPower, raise, holdsX}
-use Rattle.formula_scan.specs.Scan.{Byte, plusByte, minusByte, starByte, caretByte, openByte, closeByte, xByte, zeroByte, digitByte, otherByte, byteOf, noSum, Level, level, Outer, bottom, inBrackets, inExponent, State, operand, inNumber, atomed, afterCaret, inLiteral, powered, stopped, closed, afterPower, afterAtom, afterDigit, afterLiteralDigit, beforeOperand, beforeExponent, step, reads, stops, ended, ending, run}
-use Rattle.formula_scan.specs.Readers.{faultPlaces, parity, baseFault, faulted, stopping, fails, SumRead, ProductRead, Judged, refuses, accepts}
-use Rattle.formula_scan.specs.Packing.{faultCodes, flags, flag, unpacked, Packable, Packs}
+use Rattle.formula_scan.specs.Scan.{Byte, plusByte, minusByte, starByte, caretByte, openByte, closeByte, xByte, zeroByte, digitByte, otherByte, byteOf, Piece, numberTo, literalTo, noSum, Level, level, Outer, bottom, inBrackets, inExponent, State, operand, inNumber, atomed, afterCaret, inLiteral, powered, stopped, closed, afterPower, afterAtom, afterDigit, afterLiteralDigit, beforeOperand, beforeExponent, step, reads, stops, ended, ending, run}
+use Rattle.formula_scan.specs.Readers.{faultPlaces, waiting, parity, baseFault, faulted, stopping, fails, SumRead, ProductRead, Judged, refuses, accepts}
+use Rattle.formula_scan.specs.Packing.{faultCodes, flags, flag, leftOf, unpacked, Packable, Packs}
 use Rattle.formula_scan.proofs.Judging.{fault-number}
 use Rattle.formula_scan.proofs.Ways.{Got, lost, got-odd, got-few, ProductSoFar, SumSoFar}
 
@@ -21,11 +21,11 @@ use Rattle.formula_scan.proofs.Ways.{Got, lost, got-odd, got-few, Produ
 -- Where the scan has stopped, it did so at the place `at` at the latest.
 unfoldable Past : ℕ → State → Type 0
 Past at (operand lv) = Unit {0}
-Past at (inNumber lv p v) = Unit {0}
-Past at (atomed lv t) = Unit {0}
-Past at (afterCaret lv t p) = Unit {0}
-Past at (inLiteral lv t p n) = Unit {0}
-Past at (powered lv t) = Unit {0}
+Past at (inNumber lv p v e) = Unit {0}
+Past at (atomed lv x) = Unit {0}
+Past at (afterCaret lv x p) = Unit {0}
+Past at (inLiteral lv x p n e) = Unit {0}
+Past at (powered lv x) = Unit {0}
 Past at (stopped p) = p ≤ at
 
 -- Two stops are one place, and a stop is no tree.
@@ -36,63 +36,63 @@ apart : {t : Tree} {p : ℕ} → reads t ≡ stops p → ⊥
 apart e = let z : _≡_ {A = ℕ} 0 1 = cc in omega arith
 
 module _ (at : ℕ) where
-  past-close : (o : Outer) (t : Tree) → Past (suc at) (closed o t at)
+  past-close : (o : Outer) (x : Piece) → Past (suc at) (closed o x at)
   unfolding Past closed
-  past-close bottom t = omega arith
-  past-close (inBrackets lv) t = tt
-  past-close (inExponent lv a p) t = tt
+  past-close bottom x = omega arith
+  past-close (inBrackets lv p) x = tt
+  past-close (inExponent lv a p) x = tt
 
-  past-power : (lv : Level) (t : Tree) (b : Byte) → Past (suc at) (afterPower lv t at b)
+  past-power : (lv : Level) (x : Piece) (b : Byte) → Past (suc at) (afterPower lv x at b)
   unfolding Past afterPower
-  past-power (level σ π m o) t plusByte = tt
-  past-power (level σ π m o) t minusByte = tt
-  past-power (level σ π m o) t starByte = tt
-  past-power (level σ π m o) t closeByte = past-close o _
-  past-power (level σ π m o) t caretByte = omega arith
-  past-power (level σ π m o) t openByte = omega arith
-  past-power (level σ π m o) t xByte = omega arith
-  past-power (level σ π m o) t zeroByte = omega arith
-  past-power (level σ π m o) t (digitByte d) = omega arith
-  past-power (level σ π m o) t otherByte = omega arith
+  past-power (level σ π m o) x plusByte = tt
+  past-power (level σ π m o) x minusByte = tt
+  past-power (level σ π m o) x starByte = tt
+  past-power (level σ π m o) x closeByte = past-close o _
+  past-power (level σ π m o) x caretByte = omega arith
+  past-power (level σ π m o) x openByte = omega arith
+  past-power (level σ π m o) x xByte = omega arith
+  past-power (level σ π m o) x zeroByte = omega arith
+  past-power (level σ π m o) x (digitByte d) = omega arith
+  past-power (level σ π m o) x otherByte = omega arith
 
-  past-atom : (lv : Level) (t : Tree) (b : Byte) → Past (suc at) (afterAtom lv t at b)
+  past-atom : (lv : Level) (x : Piece) (b : Byte) → Past (suc at) (afterAtom lv x at b)
   unfolding Past afterAtom
-  past-atom lv t caretByte = tt
-  past-atom lv t plusByte = past-power lv t plusByte
-  past-atom lv t minusByte = past-power lv t minusByte
-  past-atom lv t starByte = past-power lv t starByte
-  past-atom lv t closeByte = past-power lv t closeByte
-  past-atom lv t openByte = omega arith
-  past-atom lv t xByte = omega arith
-  past-atom lv t zeroByte = omega arith
-  past-atom lv t (digitByte d) = omega arith
-  past-atom lv t otherByte = omega arith
+  past-atom lv x caretByte = tt
+  past-atom lv x plusByte = past-power lv x plusByte
+  past-atom lv x minusByte = past-power lv x minusByte
+  past-atom lv x starByte = past-power lv x starByte
+  past-atom lv x closeByte = past-power lv x closeByte
+  past-atom lv x openByte = omega arith
+  past-atom lv x xByte = omega arith
+  past-atom lv x zeroByte = omega arith
+  past-atom lv x (digitByte d) = omega arith
+  past-atom lv x otherByte = omega arith
 
-  past-digit : (lv : Level) (p v : ℕ) (b : Byte) → Past (suc at) (afterDigit lv p v at b)
+  past-digit : (lv : Level) (p v e : ℕ) (b : Byte) → Past (suc at) (afterDigit lv p v e at b)
   unfolding Past afterDigit
-  past-digit lv p v zeroByte = tt
-  past-digit lv p v (digitByte d) = tt
-  past-digit lv p v plusByte = past-atom lv (number p v) plusByte
-  past-digit lv p v minusByte = past-atom lv (number p v) minusByte
-  past-digit lv p v starByte = past-atom lv (number p v) starByte
-  past-digit lv p v caretByte = past-atom lv (number p v) caretByte
-  past-digit lv p v openByte = past-atom lv (number p v) openByte
-  past-digit lv p v closeByte = past-atom lv (number p v) closeByte
-  past-digit lv p v xByte = past-atom lv (number p v) xByte
-  past-digit lv p v otherByte = past-atom lv (number p v) otherByte
+  past-digit lv p v e zeroByte = tt
+  past-digit lv p v e (digitByte d) = tt
+  past-digit lv p v e plusByte = past-atom lv (numberTo p v e) plusByte
+  past-digit lv p v e minusByte = past-atom lv (numberTo p v e) minusByte
+  past-digit lv p v e starByte = past-atom lv (numberTo p v e) starByte
+  past-digit lv p v e caretByte = past-atom lv (numberTo p v e) caretByte
+  past-digit lv p v e openByte = past-atom lv (numberTo p v e) openByte
+  past-digit lv p v e closeByte = past-atom lv (numberTo p v e) closeByte
+  past-digit lv p v e xByte = past-atom lv (numberTo p v e) xByte
+  past-digit lv p v e otherByte = past-atom lv (numberTo p v e) otherByte
 
-  past-literal : (lv : Level) (t : Tree) (p n : ℕ) (b : Byte) → Past (suc at) (afterLiteralDigit lv t p n at b)
+  past-literal : (lv : Level) (x : Piece) (p n e : ℕ) (b : Byte) → Past (suc at) (afterLiteralDigit lv x p n e at b)
   unfolding Past afterLiteralDigit
-  past-literal lv t p n zeroByte = tt
-  past-literal lv t p n (digitByte d) = tt
-  past-literal lv t p n plusByte = past-power lv (literalPower t p n) plusByte
-  past-literal lv t p n minusByte = past-power lv (literalPower t p n) minusByte
-  past-literal lv t p n starByte = past-power lv (literalPower t p n) starByte
-  past-literal lv t p n caretByte = past-power lv (literalPower t p n) caretByte
-  past-literal lv t p n openByte = past-power lv (literalPower t p n) openByte
-  past-literal lv t p n closeByte = past-power lv (literalPower t p n) closeByte
-  past-literal lv t p n xByte = past-power lv (literalPower t p n) xByte
-  past-literal lv t p n otherByte = past-power lv (literalPower t p n) otherByte
+  past-literal lv x p n e zeroByte = tt
+  past-literal lv x p n e (digitByte d) = tt
+  past-literal lv x p n e plusByte = past-power lv (literalTo x p n e) plusByte
+  past-literal lv x p n e minusByte = past-power lv (literalTo x p n e) minusByte
+  past-literal lv x p n e starByte = past-power lv (literalTo x p n e) starByte
+  past-literal lv x p n e caretByte = past-power lv (literalTo x p n e) caretByte
+  past-literal lv x p n e openByte = past-power lv (literalTo x p n e) openByte
+  past-literal lv x p n e closeByte = past-power lv (literalTo x p n e) closeByte
+  past-literal lv x p n e xByte = past-power lv (literalTo x p n e) xByte
+  past-literal lv x p n e otherByte = past-power lv (literalTo x p n e) otherByte
 
   past-operand : (lv : Level) (b : Byte) → Past (suc at) (beforeOperand lv at b)
   unfolding Past beforeOperand
@@ -107,43 +107,43 @@ module _ (at : ℕ) where
   past-operand lv closeByte = omega arith
   past-operand lv otherByte = omega arith
 
-  past-exponent : (lv : Level) (t : Tree) (p : ℕ) (b : Byte) → Past (suc at) (beforeExponent lv t p at b)
+  past-exponent : (lv : Level) (x : Piece) (p : ℕ) (b : Byte) → Past (suc at) (beforeExponent lv x p at b)
   unfolding Past beforeExponent
-  past-exponent lv t p zeroByte = tt
-  past-exponent lv t p (digitByte d) = tt
-  past-exponent lv t p openByte = tt
-  past-exponent lv t p plusByte = omega arith
-  past-exponent lv t p minusByte = omega arith
-  past-exponent lv t p starByte = omega arith
-  past-exponent lv t p caretByte = omega arith
-  past-exponent lv t p closeByte = omega arith
-  past-exponent lv t p xByte = omega arith
-  past-exponent lv t p otherByte = omega arith
+  past-exponent lv x p zeroByte = tt
+  past-exponent lv x p (digitByte d) = tt
+  past-exponent lv x p openByte = tt
+  past-exponent lv x p plusByte = omega arith
+  past-exponent lv x p minusByte = omega arith
+  past-exponent lv x p starByte = omega arith
+  past-exponent lv x p caretByte = omega arith
+  past-exponent lv x p closeByte = omega arith
+  past-exponent lv x p xByte = omega arith
+  past-exponent lv x p otherByte = omega arith
 
   past-step : (S : State) (b : Byte) → Past at S → Past (suc at) (step S at b)
   unfolding Past step
   past-step (operand lv) b h = past-operand lv b
-  past-step (inNumber lv p v) b h = past-digit lv p v b
-  past-step (atomed lv t) b h = past-atom lv t b
-  past-step (afterCaret lv t p) b h = past-exponent lv t p b
-  past-step (inLiteral lv t p n) b h = past-literal lv t p n b
-  past-step (powered lv t) b h = past-power lv t b
+  past-step (inNumber lv p v e) b h = past-digit lv p v e b
+  past-step (atomed lv x) b h = past-atom lv x b
+  past-step (afterCaret lv x p) b h = past-exponent lv x p b
+  past-step (inLiteral lv x p n e) b h = past-literal lv x p n e b
+  past-step (powered lv x) b h = past-power lv x b
   past-step (stopped p) b h = omega arith
 
-  past-ended : (lv : Level) (t : Tree) {p : ℕ} → ended lv t at ≡ stops p → p ≤ at
+  past-ended : (lv : Level) (x : Piece) {p : ℕ} → ended lv x at ≡ stops p → p ≤ at
   unfolding ended
-  past-ended (level σ π m bottom) t e = absurd (apart e)
-  past-ended (level σ π m (inBrackets lv)) t e = same e
-  past-ended (level σ π m (inExponent lv a q)) t e = same e
+  past-ended (level σ π m bottom) x e = absurd (apart e)
+  past-ended (level σ π m (inBrackets lv q)) x e = same e
+  past-ended (level σ π m (inExponent lv a q)) x e = same e
 
   past-end : (S : State) {p : ℕ} → Past at S → ending S at ≡ stops p → p ≤ at
   unfolding Past ending
   past-end (operand lv) h e = same e
-  past-end (inNumber lv q v) h e = past-ended lv (number q v) e
-  past-end (atomed lv t) h e = past-ended lv t e
-  past-end (afterCaret lv t q) h e = same e
-  past-end (inLiteral lv t q n) h e = past-ended lv (literalPower t q n) e
-  past-end (powered lv t) h e = past-ended lv t e
+  past-end (inNumber lv q v k) h e = past-ended lv (numberTo q v k) e
+  past-end (atomed lv x) h e = past-ended lv x e
+  past-end (afterCaret lv x q) h e = same e
+  past-end (inLiteral lv x q n k) h e = past-ended lv (literalTo x q n k) e
+  past-end (powered lv x) h e = past-ended lv x e
   past-end (stopped q) h e = omega (arith, same e)
 
 -- The scan of the bytes from a place on stops at their end at the latest.
@@ -176,22 +176,32 @@ unpacked-packed f word packs e =
     let letter = flag-small (f .variable) in
     same-found (flag-read (f .ok) (word % 2) (omega arith)) (flag-read (f .variable) (word / 2 % 2) (omega arith)) (omega arith) (omega arith) (omega arith) (omega arith)
 
+-- And so does that of what waits on the left of a sign.
+pub left-held : (p sign odd : ℕ) (x : Bool) (word : ℕ) → sign < 256 → odd < 2 → word ≡ (p * 256 + sign) * 4 + (2 * flag x + odd)
+    → leftOf word ≡ waiting p sign x odd
+left-held p sign odd x word small bit e =
+    let letter = flag-small x in
+    same-left (omega arith) (omega arith) (flag-read x (word / 2 % 2) (omega arith)) (omega arith)
+  where
+    same-left : {a b c d g h : ℕ} {y z : Bool} → a ≡ b → c ≡ d → y ≡ z → g ≡ h → waiting a c y g ≡ waiting b d z h
+    same-left {a} {b} {c} {d} {g} {h} {y} {z} i j k l = ap₂ (λ u v. waiting u v y g) i j ∙ ap₂ (λ u v. waiting b d u v) k l
+
 -- No fault is added by a tree that is above the least one before it.
 faulted-least : (w : ℕ) (t : Tree) (f : ℕ) → faulted w t f ≤ f
 unfolding faulted
-faulted-least w (number p v) f = omega arith
-faulted-least w variable f = omega arith
-faulted-least w (sum a b) f = omega (arith, faulted-least w a f, faulted-least w b (faulted w a f))
-faulted-least w (difference a b) f = omega (arith, faulted-least w a f, faulted-least w b (faulted w a f))
-faulted-least w (product a b) f = omega (arith, faulted-least w a f, faulted-least w b (faulted w a f))
-faulted-least w (minus a) f = faulted-least w a f
-faulted-least w (literalPower a p n) f = omega (arith, faulted-least w a f)
-faulted-least w (raise a p b) f =
+faulted-least w (number s p v) f = omega arith
+faulted-least w (variable s) f = omega arith
+faulted-least w (sum s a b) f = omega (arith, faulted-least w a f, faulted-least w b (faulted w a f))
+faulted-least w (difference s a b) f = omega (arith, faulted-least w a f, faulted-least w b (faulted w a f))
+faulted-least w (product s a b) f = omega (arith, faulted-least w a f, faulted-least w b (faulted w a f))
+faulted-least w (minus s a) f = faulted-least w a f
+faulted-least w (literalPower s a p n) f = omega (arith, faulted-least w a f)
+faulted-least w (raise s a p b) f =
     let least = min (faulted w a f) (baseFault (holdsX a) (parity a) p) in
     omega (arith, faulted-least w a f, faulted-least w b least)
 
 module _ {w : ℕ} {l : List ℕ} {at n f : ℕ} {out now : List ℕ} where
-  pub product-fault : {left : Found} {joined : Bool} → ProductSoFar w l at n f out left joined now → left .fault ≤ f
+  pub product-fault : {left : Found} {sign : ℕ} → ProductSoFar w l at n f out left sign now → left .fault ≤ f
   product-fault (ProductSoFar.none-yet j e v) = omega (arith, ap (λ (x : Found). x .fault) e)
   product-fault (ProductSoFar.times-next t p j e v a b c d) = omega (arith, ap (λ (x : Found). x .fault) e, faulted-least w t f)
 
@@ -218,7 +228,7 @@ module _ {w : ℕ} {l : List ℕ} {at n f : ℕ} {out : List ℕ} {r : Found} {n
   sum-stops read none = fails refl (lost read none)
 
 -- What is got of a text that packs does so too.
-module _ {w : ℕ} {C : Type 0} {from : C → State} {to : C → Tree → State} {Next : ℕ → Type 0} {l : List ℕ} {at n f : ℕ} {out : List ℕ} {r : Found} {now : List ℕ}
+module _ {w : ℕ} {C : Type 0} {from : C → State} {to : C → Piece → State} {Next : ℕ → Type 0} {l : List ℕ} {at n f : ℕ} {out : List ℕ} {r : Found} {now : List ℕ}
     (g : Got w C from to Next l at n f out r now) where
   pub got-fault : r .fault ≤ f
   got-fault = omega (arith, ap (λ (x : Found). x .fault) (g .is), faulted-least w (g .t) f)

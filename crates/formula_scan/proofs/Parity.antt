@@ -10,7 +10,7 @@ use lib.Pow.{pow-pos}
 use borrow.Author.Tests.{ne-eqb}
 use Rattle.word.proofs.Modulo.{mul-same, pow-same}
 use Rattle.word.proofs.OddBase.{one-pow}
-use Rattle.formula.specs.Tree.{Tree, number, variable, sum, difference, product, minus, literalPower, raise, holdsX}
+use Rattle.formula.specs.Tree.{Span, Tree, number, variable, sum, difference, product, minus, literalPower, raise, holdsX}
 use Rattle.formula.specs.Value.{valueFor}
 use Rattle.formula.specs.Refusals.{Part, itself, sum-left, sum-right, difference-left, difference-right, product-left, product-right, under-minus, under-power, in-base, in-exponent}
 use Rattle.formula_scan.specs.Readers.{parity}
@@ -29,14 +29,14 @@ joined f a b left right none = let h = neither (holdsX a) (holdsX b) none in ap�
 
 pub value-without-x : (w x y : ℕ) (t : Tree) → holdsX t ≡ false → valueFor w x t ≡ valueFor w y t
 unfolding holdsX valueFor
-value-without-x w x y (number p v) none = refl
-value-without-x w x y variable none = absurd (true≢false none)
-value-without-x w x y (sum a b) none = joined (Word.sum w) a b (value-without-x w x y a) (value-without-x w x y b) none
-value-without-x w x y (difference a b) none = joined (Word.difference w) a b (value-without-x w x y a) (value-without-x w x y b) none
-value-without-x w x y (product a b) none = joined (Word.product w) a b (value-without-x w x y a) (value-without-x w x y b) none
-value-without-x w x y (minus a) none = ap (Word.negation w) (value-without-x w x y a none)
-value-without-x w x y (literalPower a p n) none = ap (λ k. Word.power w k n) (value-without-x w x y a none)
-value-without-x w x y (raise a p b) none = joined (Word.power w) a b (value-without-x w x y a) (value-without-x w x y b) none
+value-without-x w x y (number s p v) none = refl
+value-without-x w x y (variable s) none = absurd (true≢false none)
+value-without-x w x y (sum s a b) none = joined (Word.sum w) a b (value-without-x w x y a) (value-without-x w x y b) none
+value-without-x w x y (difference s a b) none = joined (Word.difference w) a b (value-without-x w x y a) (value-without-x w x y b) none
+value-without-x w x y (product s a b) none = joined (Word.product w) a b (value-without-x w x y a) (value-without-x w x y b) none
+value-without-x w x y (minus s a) none = ap (Word.negation w) (value-without-x w x y a none)
+value-without-x w x y (literalPower s a p n) none = ap (λ k. Word.power w k n) (value-without-x w x y a none)
+value-without-x w x y (raise s a p b) none = joined (Word.power w) a b (value-without-x w x y a) (value-without-x w x y b) none
 
 -- ---- parities of words
 mod-even : (a m k : ℕ) → m ≡ k * 2 → a % m % 2 ≡ a % 2
@@ -89,7 +89,7 @@ difference-parity w a b pos =
 module _ (w x : ℕ) (pos : 0 < w) (Good : Tree → Type 0)
     (odd : (a : Tree) → holdsX a ≡ false → Good a → valueFor w x a % 2 ≡ parity a → valueFor w x a % 2 ≡ 1) where
   abbrev Bases : Tree → Type 0
-  Bases t = (a b : Tree) (p : ℕ) → Part (raise a p b) t → Good a
+  Bases t = (k : Span) (a b : Tree) (p : ℕ) → Part (raise k a p b) t → Good a
 
   abbrev Agrees : Tree → Type 0
   Agrees t = holdsX t ≡ false → Bases t → valueFor w x t % 2 ≡ parity t
@@ -98,43 +98,43 @@ module _ (w x : ℕ) (pos : 0 < w) (Good : Tree → Type 0)
       → (holdsX a || holdsX b) ≡ false → Bases t → (valueFor w x a % 2 ≡ parity a) × (valueFor w x b % 2 ≡ parity b)
   both {a} {b} f g in-left in-right none good =
       let h = neither (holdsX a) (holdsX b) none in
-      (f (h .0) (λ c d p k. good c d p (in-left (raise c p d) k)), g (h .1) (λ c d p k. good c d p (in-right (raise c p d) k)))
+      (f (h .0) (λ s c d p k. good s c d p (in-left (raise s c p d) k)), g (h .1) (λ s c d p k. good s c d p (in-right (raise s c p d) k)))
 
   agrees : (t : Tree) → Agrees t
   unfolding holdsX valueFor parity
-  agrees (number p v) none good = word-parity w v pos
-  agrees variable none good = absurd (true≢false none)
-  agrees (sum a b) none good =
+  agrees (number s p v) none good = word-parity w v pos
+  agrees (variable s) none good = absurd (true≢false none)
+  agrees (sum s a b) none good =
       let h = both (agrees a) (agrees b) (λ u. sum-left) (λ u. sum-right) none good in
       word-parity w (valueFor w x a + valueFor w x b) pos ∙ omega arith
-  agrees (difference a b) none good =
+  agrees (difference s a b) none good =
       let h = both (agrees a) (agrees b) (λ u. difference-left) (λ u. difference-right) none good in
       difference-parity w (valueFor w x a) (valueFor w x b) pos ∙ omega arith
-  agrees (product a b) none good =
+  agrees (product s a b) none good =
       let h = both (agrees a) (agrees b) (λ u. product-left) (λ u. product-right) none good in
       word-parity w (valueFor w x a * valueFor w x b) pos
       ∙ product-parity (valueFor w x a) (valueFor w x b) (parity a) (parity b) (h .0) (h .1)
-  agrees (minus a) none good =
-      let h = agrees a none (λ c d p k. good c d p (under-minus k)) in
+  agrees (minus s a) none good =
+      let h = agrees a none (λ m c d p k. good m c d p (under-minus k)) in
       difference-parity w 0 (valueFor w x a) pos ∙ omega arith
-  agrees (literalPower a p n) none good =
+  agrees (literalPower s a p n) none good =
       word-parity w (valueFor w x a ^ n) pos
-      ∙ literal-parity (valueFor w x a) (parity a) n (agrees a none (λ c d q k. good c d q (under-power k)))
-  agrees (raise a p b) none good =
+      ∙ literal-parity (valueFor w x a) (parity a) n (agrees a none (λ m c d q k. good m c d q (under-power k)))
+  agrees (raise s a p b) none good =
       let h = both (agrees a) (agrees b) (λ u. in-base) (λ u. in-exponent) none good in
       word-parity w (valueFor w x a ^ valueFor w x b) pos
-      ∙ odd-power (valueFor w x a) (valueFor w x b) (odd a (neither (holdsX a) (holdsX b) none .0) (good a b p itself) (h .0))
+      ∙ odd-power (valueFor w x a) (valueFor w x b) (odd a (neither (holdsX a) (holdsX b) none .0) (good s a b p itself) (h .0))
 
 -- Each raise has a base without x, of odd value.
 abbrev pub OddBases : ℕ → Tree → Type 0
-OddBases w t = (a b : Tree) (p : ℕ) → Part (raise a p b) t → (holdsX a ≡ false) × (valueFor w 0 a % 2 ≡ 1)
+OddBases w t = (k : Span) (a b : Tree) (p : ℕ) → Part (raise k a p b) t → (holdsX a ≡ false) × (valueFor w 0 a % 2 ≡ 1)
 
 pub parity-value : (w x : ℕ) → 0 < w → (t : Tree) → holdsX t ≡ false → OddBases w t → valueFor w x t % 2 ≡ parity t
 parity-value w x pos t none good =
     agrees w x pos (λ a. valueFor w 0 a % 2 ≡ 1) (λ a h g e. ap (λ v. v % 2) (value-without-x w x 0 a h) ∙ g) t none
-    (λ a b p k. good a b p k .1)
+    (λ s a b p k. good s a b p k .1)
 
 -- The same where each base is noted as odd.
 pub parity-noted : (w x : ℕ) → 0 < w → (t : Tree) → holdsX t ≡ false
-    → ((a b : Tree) (p : ℕ) → Part (raise a p b) t → parity a ≡ 1) → valueFor w x t % 2 ≡ parity t
+    → ((k : Span) (a b : Tree) (p : ℕ) → Part (raise k a p b) t → parity a ≡ 1) → valueFor w x t % 2 ≡ parity t
 parity-noted w x pos t none good = agrees w x pos (λ a. parity a ≡ 1) (λ a h g e. e ∙ g) t none good

@@ -1,18 +1,17 @@
 -- The scan of specs/Scan.antt, by itself: texts and marks in parts, what a byte's class says of the byte, runs of digits, minus signs.
-use mathlib.Core.Path.{_≡_, refl, sym, ap, _∙_}
+use mathlib.Core.Path.{_≡_, refl, sym, ap, ap₂, _∙_}
 use mathlib.Core.Logic.{_≢_}
 use mathlib.Core.Bool.{Bool, true, false, cond, _&&_, and-eq-true-iff}
 use mathlib.Core.List.{List, [], _∷_, _++_}
-use Prim.Native.Nat.{ℕ, zero, suc, _+_, _-_, _*_, _≤_, _<_}
+use Prim.Native.Nat.{ℕ, suc, _+_, _-_, _*_, _≤_, _<_}
 use native.Mathlib.Omega.{arith}
 use lib.Dec.{eqb, leb, ltb}
 use lib.ListN.{length}
 use borrow.Author.Tests.{eqb-true, eqb-false, ne-eqb, leb-true, leb-false, le-leb, ltb-true, ltb-false}
 use Rattle.formula.specs.Bytes.{openBracket, closeBracket, star, plusSign, minusSign, caret, letterX, Digit, digitsFrom}
 use Rattle.formula.specs.Marks.{Mark, mark, marked}
-use Rattle.formula.specs.Tree.{Tree, minus}
 use Rattle.formula.specs.Grammar.{Digits, no-digit, digit}
-use Rattle.formula_scan.specs.Scan.{Byte, plusByte, minusByte, starByte, caretByte, openByte, closeByte, xByte, zeroByte, digitByte, otherByte, byteOf, State, stopped, negatives, step, stops, ending, fed, run}
+use Rattle.formula_scan.specs.Scan.{Byte, plusByte, minusByte, starByte, caretByte, openByte, closeByte, xByte, zeroByte, digitByte, otherByte, byteOf, Piece, negative, State, stopped, negatives, step, stops, ending, fed, run}
 
 -- ---- texts and marks in parts
 pub run-fed : (S : State) (at : ℕ) (s r : List ℕ) → run S at (s ++ r) ≡ run (fed S (marked at s)) (at + length s) r
@@ -94,37 +93,40 @@ byte-digit c low high =
       le-leb c 57 high,
     )
 
--- ---- digits: states that hold a number take one digit after the other
-module _ (holding : ℕ → State) (takes-zero : (v at : ℕ) → step (holding v) at zeroByte ≡ holding (10 * v + 0))
-    (takes-digit : (v at d : ℕ) → step (holding v) at (digitByte d) ≡ holding (10 * v + d)) where
-  pub takes : (v at c : ℕ) → Digit c → step (holding v) at (byteOf c) ≡ holding (10 * v + (c - 48))
+-- ---- digits: states that hold a number, and where it ended, take one digit after the other
+module _ (holding : ℕ → ℕ → State) (takes-zero : (v e at : ℕ) → step (holding v e) at zeroByte ≡ holding (10 * v + 0) (suc at))
+    (takes-digit : (v e at d : ℕ) → step (holding v e) at (digitByte d) ≡ holding (10 * v + d) (suc at)) where
+  pub takes : (v e at c : ℕ) → Digit c → step (holding v e) at (byteOf c) ≡ holding (10 * v + (c - 48)) (suc at)
   unfolding byteOf
-  takes v at c d = go (ltb 48 c) refl
+  takes v e at c d = go (ltb 48 c) refl
     where
-      at-zero : c ≡ 48 → step (holding v) at (byteOf c) ≡ holding (10 * v + (c - 48))
-      at-zero e = rw e (takes-zero v at)
+      at-zero : c ≡ 48 → step (holding v e) at (byteOf c) ≡ holding (10 * v + (c - 48)) (suc at)
+      at-zero q = rw q (takes-zero v e at)
 
-      go : (t : Bool) → ltb 48 c ≡ t → step (holding v) at (byteOf c) ≡ holding (10 * v + (c - 48))
-      go true e = ap (λ b. step (holding v) at b) (byte-digit c (ltb-true 48 c e) (d .1)) ∙ takes-digit v at (c - 48)
-      go false e = at-zero (omega (arith, ltb-false 48 c e))
+      go : (t : Bool) → ltb 48 c ≡ t → step (holding v e) at (byteOf c) ≡ holding (10 * v + (c - 48)) (suc at)
+      go true q = ap (λ b. step (holding v e) at b) (byte-digit c (ltb-true 48 c q) (d .1)) ∙ takes-digit v e at (c - 48)
+      go false q = at-zero (omega (arith, ltb-false 48 c q))
 
-  pub fed-digits : {ds : List ℕ} → Digits ds → (v at : ℕ) → fed (holding v) (marked at ds) ≡ holding (digitsFrom v ds)
+  pub fed-digits : {ds : List ℕ} → Digits ds → (v at : ℕ) → fed (holding v at) (marked at ds) ≡ holding (digitsFrom v ds) (at + length ds)
   unfolding fed marked digitsFrom
-  fed-digits no-digit v at = refl
+  fed-digits no-digit v at = ap (λ e. holding v e) (omega arith)
   fed-digits (digit {d = c} {ds = ds} d rest) v at =
-      ap (λ S. fed S (marked (suc at) ds)) (takes v at c d) ∙ fed-digits rest (10 * v + (c - 48)) (suc at)
+      ap (λ S. fed S (marked (suc at) ds)) (takes v at at c d)
+      ∙ fed-digits rest (10 * v + (c - 48)) (suc at)
+      ∙ ap (λ e. holding (digitsFrom (10 * v + (c - 48)) ds) e) (omega arith)
 
   -- A number that does not begin with 0.
-  pub fed-number : (S : State) (at : ℕ) → ((d : ℕ) → step S at (digitByte d) ≡ holding d)
-      → {c : ℕ} {ds : List ℕ} → 49 ≤ c → c ≤ 57 → Digits ds → fed S (marked at (c ∷ ds)) ≡ holding (digitsFrom 0 (c ∷ ds))
+  pub fed-number : (S : State) (at : ℕ) → ((d : ℕ) → step S at (digitByte d) ≡ holding d (suc at))
+      → {c : ℕ} {ds : List ℕ} → 49 ≤ c → c ≤ 57 → Digits ds
+      → fed S (marked at (c ∷ ds)) ≡ holding (digitsFrom 0 (c ∷ ds)) (at + length (c ∷ ds))
   unfolding fed marked digitsFrom
   fed-number S at begins {c} {ds} low high rest =
       ap (λ T. fed T (marked (suc at) ds)) (ap (λ b. step S at b) (byte-digit c low high) ∙ begins (c - 48))
       ∙ fed-digits rest (c - 48) (suc at)
-      ∙ ap (λ v. holding (digitsFrom v ds)) (omega arith)
+      ∙ ap₂ (λ v e. holding (digitsFrom v ds) e) (omega arith) (omega arith)
 
--- ---- one minus sign more, inside or outside
-pub negatives-minus : (m : ℕ) (t : Tree) → negatives m (minus t) ≡ negatives (suc m) t
+-- ---- minus signs inside others
+pub negatives-append : (m k : List ℕ) (x : Piece) → negatives (m ++ k) x ≡ negatives k (negatives m x)
 unfolding negatives
-negatives-minus zero t = refl
-negatives-minus (suc m) t = ap minus (negatives-minus m t)
+negatives-append [] k x = refl
+negatives-append (p ∷ m) k x = negatives-append m k (negative p x)

@@ -6,6 +6,7 @@ use Prim.Native.Nat.{ℕ, _/_, _%_, _≤_, _<_}
 use lib.Dec.{eqb}
 use lib.ListN.{length}
 use Rattle.formula_scan.specs.declared.Found.{Found}
+use Rattle.formula_scan.specs.declared.Left.{Left}
 use Rattle.formula_scan.specs.Readers.{faultPlaces, noFault}
 
 -- Above the code of any fault, and above `noFault`.
@@ -30,6 +31,10 @@ unpacked word = record {
   nodes = word / flags / faultPlaces / faultCodes;
   fault = word / flags / faultPlaces % faultCodes;
 }
+
+-- What waits on the left of a sign, read off one word: from the lowest digit on its oddness, whether x stands in it, the sign, the first byte.
+abbrev pub leftOf : ℕ → Left
+leftOf word = record { first = word / 4 / 256; sign = word / 4 % 256; variable = eqb (word / 2 % 2) 1; odd = word % 2 }
 
 -- What is found fits one word.
 pub record Packable (f : Found) : Type 0 where

@@ -12,7 +12,7 @@ ghost use Rattle.word.specs.Signed.{wordOf};
 ghost use Rattle.probe.specs.Probe.{probeAnswer};
 ghost use Rattle.otterchime.specs.Answers.{CompiledInto, fillWords, fillErasWords, costWords, soundWords, probeWords, verdictNumber};
 
-// Compiles a formula's text on a grid into a lent plan of 2,561 words. A refusal alters no word of the plan; words past its own stay.
+// Compiles a formula's text on a grid into a lent plan of 2,817 words. A refusal alters no word of the plan; words past its own stay.
 #[no_mangle]
 pub extern "C" fn otterchime_compile(
     text: &[u8],

@@ -5,17 +5,17 @@ use mathlib.Core.List.{List, [], _∷_, _++_, map, map-append, append-assoc}
 use Prim.Native.Nat.{ℕ, zero, suc, _+_, _-_, _*_, _%_, _^_, _≤_, _<_}
 use native.Mathlib.Nat.{zero-add, suc-add, suc-inj, suc-ne-zero, add-comm}
 use native.Mathlib.Omega.{arith}
-use lib.Dec.{eqb, ltb}
+use lib.Dec.{eqb, ltb, leb}
 use lib.ListN.{length, getD, take, drop, length-map, length-append, take-append-drop, List·getD-map}
-use lib.Seq.{slice, take-add, take-take, drop-drop, getD-take, length-front}
+use lib.Seq.{slice, take-add, take-take, drop-drop, getD-take, getD-drop, length-front}
 use borrow.Author.Tests.{eqb-true}
-use Rattle.plan.specs.Measures.{elementsStart, elementCount, planLength, rowLength, mostRows, rowStart}
+use Rattle.plan.specs.Measures.{elementsStart, elementCount, spanStart, longestText, planLength, rowLength, mostRows, rowStart}
 use Rattle.chain.specs.Chain.{shift, words}
 use Rattle.chain.specs.SumChain.{sumShift}
 use Rattle.chain.specs.ProductChain.{productShift}
 use Rattle.chain.proofs.Shifting.{length-shift}
 use Rattle.plan.specs.Row.{Row, kind, wordA, wordB, elements, firstElement, isChain, rowCost, elementsUsed}
-use Rattle.plan.specs.Row.{between, allZero, keepsTable, oddConstant, soundBase, soundRow}
+use Rattle.plan.specs.Row.{between, allZero, keepsTable, oddConstant, soundBase, soundSpan, soundRow}
 use Rattle.plan.specs.Plan.{rowCount, row, rowsFrom, rows, soundFrom, sound, costOf, cost, refusal}
 use Rattle.plan.specs.Points.{withChain, chainOf, shiftedRow, shiftedFrom, shiftedPlan}
 use Rattle.plan.specs.Filling.{planAfter}
@@ -103,11 +103,22 @@ module _ (_⊙_ : ℕ → ℕ → ℕ) (w : ℕ) (row : Row) where
   unfolding new rest
   first = take-front elementsStart row (take elementsStart row) (new ++ rest) refl length-behind
 
-  later : elements (withChain row chain) ≡ new
+  behind-first : drop elementsStart (withChain row chain) ≡ new ++ rest
   unfolding new rest
+  behind-first = drop-front elementsStart row (take elementsStart row) (new ++ rest) refl length-behind
+
+  later : elements (withChain row chain) ≡ new
   later =
-      ap (λ f. take elementCount f) (drop-front elementsStart row (take elementsStart row) (new ++ rest) refl length-behind)
+      ap (λ f. take elementCount f) behind-first
       ∙ take-front elementCount (drop elementsStart row) new rest length-new (ap length rest-behind)
+
+  -- The words of the span, and whatever else came behind the elements.
+  span : drop spanStart (withChain row chain) ≡ drop spanStart row
+  unfolding rest
+  span =
+      sym (drop-drop elementCount elementsStart (withChain row chain))
+      ∙ ap (λ f. drop elementCount f) behind-first
+      ∙ drop-front elementCount (drop elementsStart row) new rest length-new (ap length rest-behind)
 
   past : drop (1 + wordA row) (elements (withChain row chain)) ≡ drop (1 + wordA row) (elements row)
   unfolding new
@@ -167,7 +178,7 @@ by-kind P w row sum product same =
     split false true f g h = g refl
     split false false f g h = h
 
--- Length, the three words before the elements, and the words past the elements used stay.
+-- Length, the three words before the elements, the words past the elements used and the span stay.
 pub length-shifted : (w : ℕ) (row : Row) → length (shiftedRow w row) ≡ length row
 length-shifted w row = by-kind (λ x. length x ≡ length row) w row (λ _. long _+_ w row) (λ _. long _*_ w row) refl
 
@@ -186,6 +197,17 @@ a-shifted w row = entry-shifted w row 1 (omega arith)
 
 pub b-shifted : (w : ℕ) (row : Row) → wordB (shiftedRow w row) ≡ wordB row
 b-shifted w row = entry-shifted w row 2 (omega arith)
+
+pub span-shifted : (w : ℕ) (row : Row) → drop spanStart (shiftedRow w row) ≡ drop spanStart row
+span-shifted w row = by-kind (λ x. drop spanStart x ≡ drop spanStart row) w row (λ _. span _+_ w row) (λ _. span _*_ w row) refl
+
+-- Word j of the span.
+abbrev pub spanWord : ℕ → Row → ℕ
+spanWord j row = getD row (spanStart + j) 0
+
+pub span-word : (w j : ℕ) (row : Row) → spanWord j (shiftedRow w row) ≡ spanWord j row
+span-word w j row =
+    sym (getD-drop spanStart (shiftedRow w row) j 0) ∙ ap (λ f. getD f j 0) (span-shifted w row) ∙ getD-drop spanStart row j 0
 
 pub past-shifted : (w : ℕ) (row : Row)
     → drop (elementsUsed (kind row) (wordA row)) (elements (shiftedRow w row)) ≡ drop (elementsUsed (kind row) (wordA row)) (elements row)
@@ -300,10 +322,13 @@ base-shifted w earlier row =
         ∙ ap (λ x. oddConstant x) (List·getD-map (shiftedRow w) earlier (wordA row) [])
         ∙ odd-shifted w (getD earlier (wordA row) [])
 
+span-sound-shifted : (w : ℕ) (row : Row) → soundSpan (shiftedRow w row) ≡ soundSpan row
+span-sound-shifted w row = ap₂ (λ first end. ltb first end && leb end longestText) (span-word w 0 row) (span-word w 1 row)
+
 row-sound-shifted : (w : ℕ) (earlier : List Row) (row : Row) → soundRow (map (shiftedRow w) earlier) (shiftedRow w row) ≡ soundRow earlier row
 row-sound-shifted w earlier row =
     ap₂ _&&_ (keeps-shifted w (length (map (shiftedRow w) earlier)) row ∙ ap (λ r. keepsTable r row) (length-map earlier (shiftedRow w)))
-    (base-shifted w earlier row)
+    (ap₂ _&&_ (base-shifted w earlier row) (span-sound-shifted w row))
 
 pub sound-rows : (w : ℕ) (earlier rows : List Row) → soundFrom (map (shiftedRow w) earlier) (map (shiftedRow w) rows) ≡ soundFrom earlier rows
 unfolding soundFrom

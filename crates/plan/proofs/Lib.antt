@@ -2,6 +2,7 @@
 pub mod RowLaws
 pub mod SoundLaws
 pub mod Keeping
+pub mod SpanLaws
 pub mod Later
 pub mod Accepting
 pub mod Sharing

@@ -11,7 +11,7 @@ use lib.Seq.{drop-drop, getD-at}
 use borrow.Author.Tests.{ltb-true, leb-true, eqb-true, eqb-false, eq-eqb, ne-eqb}
 use Rattle.plan.specs.Measures.{elementCount, planLength, rowLength, mostRows, rowStart}
 use Rattle.plan.specs.declared.Kind.{Kind}
-use Rattle.plan.specs.Row.{Row, kind, wordA, wordB, costing, kindTable, kindFacts, fixedCost, operandCount, isChain, rowCost, between, soundA, soundB, elementsUsed, allZero, keepsTable, oddConstant, soundBase, soundRow}
+use Rattle.plan.specs.Row.{Row, kind, wordA, wordB, costing, kindTable, kindFacts, fixedCost, operandCount, isChain, rowCost, between, soundA, soundB, elementsUsed, allZero, keepsTable, oddConstant, soundBase, soundSpan, soundRow}
 use Rattle.plan.specs.Plan.{rowCount, row, rowsFrom, firstRows, rows, soundFrom, sound}
 use Rattle.plan.proofs.RowLaws.{rowPart, row-part, row-at, length-row, word-at, rows-add, rows-next, length-rows, sound-append}
 
@@ -178,35 +178,39 @@ earlier-row p r i h =
     ∙ getD-at (firstRows i p) (row p i) (rowsFrom (r - suc i) (drop (rowLength * suc i) (drop 1 p))) [] i (length-rows i (drop 1 p))
 
 module _ (p : List ℕ) (r : ℕ) where
-  row-sound : soundRow (firstRows r p) (row p r) ≡ (keepsTable r (row p r) && soundBase (firstRows r p) (row p r))
-  row-sound = ap (λ n. keepsTable n (row p r) && soundBase (firstRows r p) (row p r)) (length-rows r (drop 1 p))
+  row-sound : soundRow (firstRows r p) (row p r) ≡ (keepsTable r (row p r) && (soundBase (firstRows r p) (row p r) && soundSpan (row p r)))
+  row-sound = ap (λ n. keepsTable n (row p r) && (soundBase (firstRows r p) (row p r) && soundSpan (row p r))) (length-rows r (drop 1 p))
 
   pub table-broken : keepsTable r (row p r) ≡ false → soundRow (firstRows r p) (row p r) ≡ false
-  table-broken e = row-sound ∙ ap (λ b. b && soundBase (firstRows r p) (row p r)) e
+  table-broken e = row-sound ∙ ap (λ b. b && (soundBase (firstRows r p) (row p r) && soundSpan (row p r))) e
+
+  -- The row keeps the table: its base and its span are left to judge.
+  module _ (kept : keepsTable r (row p r) ≡ true) where
+    judged : soundRow (firstRows r p) (row p r) ≡ (soundBase (firstRows r p) (row p r) && soundSpan (row p r))
+    judged = row-sound ∙ ap (λ b. b && (soundBase (firstRows r p) (row p r) && soundSpan (row p r))) kept
+
+    pub base-broken : soundBase (firstRows r p) (row p r) ≡ false → soundRow (firstRows r p) (row p r) ≡ false
+    base-broken e = judged ∙ ap (λ b. b && soundSpan (row p r)) e
+
+    pub span-left : soundBase (firstRows r p) (row p r) ≡ true → soundRow (firstRows r p) (row p r) ≡ soundSpan (row p r)
+    span-left e = judged ∙ ap (λ b. b && soundSpan (row p r)) e
 
   -- The row as a part x of the plan.
-  module _ {x : Row} (same : x ≡ row p r) (kept : keepsTable r x ≡ true) where
-    kept-there : keepsTable r (row p r) ≡ true
-    kept-there = ap (λ y. keepsTable r y) (sym same) ∙ kept
+  module _ {x : Row} (same : x ≡ row p r) where
+    base-judged : (b : Bool) → eqb (kind x) 8 ≡ b
+        → soundBase (firstRows r p) (row p r) ≡ cond b (oddConstant (getD (firstRows r p) (wordA x) [])) true
+    base-judged b e =
+        ap (λ y. soundBase (firstRows r p) y) (sym same) ∙ ap (λ c. cond c (oddConstant (getD (firstRows r p) (wordA x) [])) true) e
 
-    judged : soundRow (firstRows r p) (row p r) ≡ soundBase (firstRows r p) x
-    judged =
-        row-sound
-        ∙ ap (λ b. b && soundBase (firstRows r p) (row p r)) kept-there
-        ∙ ap (λ y. soundBase (firstRows r p) y) (sym same)
+    pub no-raise : (kind x ≡ 8 → ⊥) → soundBase (firstRows r p) (row p r) ≡ true
+    no-raise other = base-judged false (ne-eqb (kind x) 8 other)
 
-    pub no-raise : (kind x ≡ 8 → ⊥) → soundRow (firstRows r p) (row p r) ≡ true
-    no-raise other = judged ∙ ap (λ b. cond b (oddConstant (getD (firstRows r p) (wordA x) [])) true) (ne-eqb (kind x) 8 other)
-
-    module _ (raise : kind x ≡ 8) where
+    module _ (kept : keepsTable r (row p r) ≡ true) (raise : kind x ≡ 8) where
       pub base-earlier : wordA x < r
-      base-earlier = kept-base r x kept raise
+      base-earlier = kept-base r x (ap (λ y. keepsTable r y) same ∙ kept) raise
 
-      pub raise-sound : soundRow (firstRows r p) (row p r) ≡ oddConstant (row p (wordA x))
-      raise-sound =
-          judged
-          ∙ ap (λ b. cond b (oddConstant (getD (firstRows r p) (wordA x) [])) true) (eq-eqb (kind x) 8 raise)
-          ∙ ap (λ y. oddConstant y) (earlier-row p r (wordA x) base-earlier)
+      pub raise-sound : soundBase (firstRows r p) (row p r) ≡ oddConstant (row p (wordA x))
+      raise-sound = base-judged true (eq-eqb (kind x) 8 raise) ∙ ap (λ y. oddConstant y) (earlier-row p r (wordA x) base-earlier)
 
   pub sound-next : soundFrom [] (firstRows r p) ≡ true → soundRow (firstRows r p) (row p r) ≡ true → soundFrom [] (firstRows (r + 1) p) ≡ true
   unfolding soundFrom

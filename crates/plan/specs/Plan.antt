@@ -9,11 +9,11 @@ use lib.Seq.{slice}
 use Rattle.plan.specs.Measures.{planLength, rowLength, mostRows, rowStart}
 use Rattle.plan.specs.Row.{Row, rowCost, between, allZero, soundRow}
 
--- "2,561 words, lent. Word 0: the number of rows, 1 to 128."
+-- "Word 0: the number of rows, 1 to 128."
 abbrev pub rowCount : List ℕ → ℕ
 rowCount p = getD p 0 0
 
--- "Row r has the 20 words from 1 + 20r."
+-- "Row offsets .. follow": row r has the 22 words from 1 + 22r.
 abbrev pub row : List ℕ → ℕ → Row
 row p r = slice (rowStart r) (rowStart r + rowLength) p
 
@@ -34,7 +34,7 @@ soundFrom earlier [] = true
 soundFrom earlier (row ∷ more) = soundRow earlier row && soundFrom (earlier ++ row ∷ []) more
 
 -- "A plan is sound if word 0 is 1 to 128, it keeps this table, every operand row is earlier, every word named unused is 0, and rows from
--- word 0's number to 127 are all 0."
+-- word 0's number to 127 are all 0"; and "only if, in each row counted by word 0, the first byte is below the end byte and the end is at most 1,024".
 unfoldable pub sound : List ℕ → Bool
 sound p = between 1 mostRows (rowCount p) && (soundFrom [] (rows p) && allZero (slice (rowStart (rowCount p)) planLength p))
 
@@ -46,6 +46,6 @@ costOf (row ∷ more) = rowCost row + costOf more
 abbrev pub cost : List ℕ → ℕ
 cost p = costOf (rows p)
 
--- "1: plan shorter than 2,561 words"; "9: plan not sound (after 1)"; otherwise 0.
+-- "1: plan shorter than" its words, 2,817 now; "9: plan not sound (after 1)"; otherwise 0.
 abbrev pub refusal : List ℕ → ℕ
 refusal p = cond (ltb (length p) planLength) 1 (cond (sound p) 0 9)

@@ -1,14 +1,14 @@
--- A row of a plan: its words, the table of row kinds, and what 01's table asks of one row.
+-- A row of a plan: its words, the table of row kinds, and what 01's table and request Five ask of one row.
 -- What a whole plan is, and when it is sound, is in Plan.antt.
 use mathlib.Core.Bool.{Bool, true, cond, _&&_, _||_}
 use mathlib.Core.List.{List, [], _∷_}
 use Prim.Native.Nat.{ℕ, _+_, _-_, _%_}
 use lib.Dec.{leb, ltb, eqb}
 use lib.ListN.{length, getD, take, drop}
-use Rattle.plan.specs.Measures.{elementsStart, elementCount}
+use Rattle.plan.specs.Measures.{elementsStart, elementCount, spanStart, longestText}
 use Rattle.plan.specs.declared.Kind.{Kind}
 
--- "Row r has the 20 words from 1 + 20r: kind, a, b, then 17 element words."
+-- "kind, a, b, then 17 element words", and "two more words at its end, first byte and end byte (the byte after the last) of the text it came from".
 abbrev pub Row : Type 0
 Row = List ℕ
 
@@ -27,6 +27,12 @@ elements row = take elementCount (drop elementsStart row)
 
 abbrev pub firstElement : Row → ℕ
 firstElement row = getD row elementsStart 0
+
+abbrev pub firstByte : Row → ℕ
+firstByte row = getD row spanStart 0
+
+abbrev pub endByte : Row → ℕ
+endByte row = getD row (spanStart + 1) 0
 
 -- "a small constant table from row kind to fixed cost and operand count", for the kinds 0 to 8.
 -- The cost of a chain is its length and that of a literal power n - 1; nothing of them is fixed.
@@ -88,5 +94,9 @@ oddConstant row = eqb (kind row) 0 && eqb (firstElement row % 2) 1
 abbrev pub soundBase : List Row → Row → Bool
 soundBase earlier row = cond (eqb (kind row) 8) (oddConstant (getD earlier (wordA row) [])) true
 
+-- "in each row counted by word 0, the first byte is below the end byte and the end is at most 1,024".
+abbrev pub soundSpan : Row → Bool
+soundSpan row = ltb (firstByte row) (endByte row) && leb (endByte row) longestText
+
 abbrev pub soundRow : List Row → Row → Bool
-soundRow earlier row = keepsTable (length earlier) row && soundBase earlier row
+soundRow earlier row = keepsTable (length earlier) row && (soundBase earlier row && soundSpan row)

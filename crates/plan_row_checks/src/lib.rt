@@ -1,7 +1,9 @@
-// What the table of row kinds asks of one row of a plan: its columns, its unused words, and the constant that a raise stands on.
+// What is asked of one row of a plan: by the table of row kinds its columns, its unused words and the constant that a raise stands on; and its span.
 // The table itself is in `plan_rows::kinds`; a plan's rows together are checked in `plan_sound`.
 use plan::ELEMENT_COUNT;
 use plan::ELEMENTS_START;
+use plan::LONGEST_TEXT;
+use plan::SPAN_START;
 use plan_rows::kinds;
 use plan_rows::kinds::CONSTANT;
 use plan_rows::kinds::LITERAL_POWER;
@@ -10,7 +12,7 @@ ghost use mathlib.Core.Path.{_≡_};
 ghost use Prim.Native.Nat.{_≤_, _<_};
 ghost use lib.ListN.{length};
 ghost use Rattle.plan.specs.Measures.{rowLength, mostRows};
-ghost use Rattle.plan.specs.Row.{soundA, soundB, elementsUsed, allZero, keepsTable, oddConstant};
+ghost use Rattle.plan.specs.Row.{soundA, soundB, elementsUsed, allZero, keepsTable, oddConstant, soundSpan};
 
 pub fn all_zero(words: &[u64]) -> bool
     ensures { λ r. ⌜ r ≡ allZero (now (words .entry)) ⌝ }
@@ -103,4 +105,16 @@ pub fn odd_constant(row: &[u64]) -> bool
         return false;
     }
     row[ELEMENTS_START] % 2 == 1
+}
+
+// The row came from some text, and that ends within the longest one.
+pub fn span_is_sound(row: &[u64]) -> bool
+    requires { ⌜ length (now row) ≡ rowLength ⌝ }
+    ensures { λ s. ⌜ s ≡ soundSpan (now (row .entry)) ⌝ }
+{
+    let end = row[SPAN_START + 1];
+    if end <= row[SPAN_START] {
+        return false;
+    }
+    end <= LONGEST_TEXT
 }

@@ -6,18 +6,34 @@ use plan::SoundAnswer;
 use plan_row_checks::all_zero;
 use plan_row_checks::keeps_table;
 use plan_row_checks::odd_constant;
+use plan_row_checks::span_is_sound;
 use plan_rows::kinds::RAISE;
 use plan_rows::row;
 ghost use mathlib.Core.Path.{_≡_};
+ghost use mathlib.Core.Bool.{true};
 ghost use mathlib.Core.List.{[]};
 ghost use Prim.Native.Nat.{_≤_, _<_};
 ghost use lib.ListN.{length};
 ghost use Rattle.plan.specs.Measures.{planLength, mostRows};
-ghost use Rattle.plan.specs.Row.{soundRow};
+ghost use Rattle.plan.specs.Row.{keepsTable, soundBase, soundRow};
 ghost use Rattle.plan.specs.Plan.{row, firstRows, soundFrom, sound, refusal};
 ghost use Rattle.plan.specs.Filling.{soundAnswer};
 
-// Row r, given the rows before it: it keeps the table, and the base of a raise is an odd constant.
+// Row r, if it is a raise, stands on an odd constant.
+fn base_is_sound(plan: &[u64], r: usize) -> bool
+    requires { ⌜ planLength ≤ length (now plan) ⌝ }
+    requires { ⌜ r < mostRows ⌝ }
+    requires { ⌜ keepsTable r (row (now plan) r) ≡ true ⌝ }
+    ensures { λ s. ⌜ s ≡ soundBase (firstRows r (now (plan .entry))) (row (now (plan .entry)) r) ⌝ }
+{
+    let words = row(plan, r);
+    if words[0] != RAISE {
+        return true;
+    }
+    odd_constant(row(plan, words[1] as usize))
+}
+
+// Row r, given the rows before it: it keeps the table, the base of a raise is an odd constant, and it came from some text.
 fn row_is_sound(plan: &[u64], r: usize) -> bool
     requires { ⌜ planLength ≤ length (now plan) ⌝ }
     requires { ⌜ r < mostRows ⌝ }
@@ -27,10 +43,10 @@ fn row_is_sound(plan: &[u64], r: usize) -> bool
     if !keeps_table(words, r as u64) {
         return false;
     }
-    if words[0] != RAISE {
-        return true;
+    if !base_is_sound(plan, r) {
+        return false;
     }
-    odd_constant(row(plan, words[1] as usize))
+    span_is_sound(words)
 }
 
 fn rows_are_sound(plan: &[u64], count: usize) -> bool

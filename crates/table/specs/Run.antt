@@ -4,7 +4,7 @@ use mathlib.Core.Path.{_≡_}
 use mathlib.Core.Bool.{true, false}
 use mathlib.Core.List.{List, [], _∷_, _++_}
 use Prim.Native.Nat.{ℕ, suc}
-use Rattle.formula.specs.Tree.{Tree}
+use Rattle.formula.specs.Tree.{Tree, spanOf}
 use Rattle.formula.specs.Refusals.{Refused, Accepted}
 use Rattle.plan.specs.Plan.{rowCount, cost}
 use Rattle.fold.specs.Folding.{fold}
@@ -17,7 +17,7 @@ use Rattle.table.specs.Lines.{noLine, jobLine, pointLines, directValues}
 -- "An accepted job prints `job`, its number from 1, rows, plan cost; then for each point its index and value": rows and cost of the plan that
 -- its formula folds to on its grid, and the formula's direct values, as many as its count says, from index 0 on.
 abbrev pub jobPlan : JobLine → Tree → List ℕ
-jobPlan job t = planWords (fold 64 (job .start) (job .step) t)
+jobPlan job t = planWords (spanOf t) (fold 64 (job .start) (job .step) t)
 
 abbrev pub acceptedLines : ℕ → JobLine → Tree → List ℕ
 acceptedLines n job t =

@@ -7,7 +7,7 @@ use native.Mathlib.Omega.{arith}
 use lib.ListN.{length, getD}
 use lib.Pow.{pow-pos}
 use Rattle.word.proofs.Ring.{word-fits}
-use Rattle.formula.specs.Tree.{Tree, number, variable, sum, difference, product, minus, literalPower, raise}
+use Rattle.formula.specs.Tree.{Tree, spanOf, number, variable, sum, difference, product, minus, literalPower, raise}
 use Rattle.formula.specs.Value.{valueFor, directValue}
 use Rattle.formula.specs.Refusals.{Accepted}
 use Rattle.plan.specs.Plan.{refusal}
@@ -37,14 +37,14 @@ module _ (w start step : ℕ) (t : Tree) where
   -- Every direct value is a word.
   value-fits : (x : ℕ) (u : Tree) → valueFor w x u < 2 ^ w
   unfolding valueFor
-  value-fits x (number p v) = word-fits w _
-  value-fits x variable = word-fits w _
-  value-fits x (sum a b) = word-fits w _
-  value-fits x (difference a b) = word-fits w _
-  value-fits x (product a b) = word-fits w _
-  value-fits x (minus a) = word-fits w _
-  value-fits x (literalPower a p n) = word-fits w _
-  value-fits x (raise a p b) = word-fits w _
+  value-fits x (number s p v) = word-fits w _
+  value-fits x (variable s) = word-fits w _
+  value-fits x (sum s a b) = word-fits w _
+  value-fits x (difference s a b) = word-fits w _
+  value-fits x (product s a b) = word-fits w _
+  value-fits x (minus s a) = word-fits w _
+  value-fits x (literalPower s a p n) = word-fits w _
+  value-fits x (raise s a p b) = word-fits w _
 
   pub direct-fits : (i n j : ℕ) → getD (directValues w start step t i n) j 0 < 2 ^ w
   unfolding directValues
@@ -54,15 +54,15 @@ module _ (w start step : ℕ) (t : Tree) where
 
 -- ---- the plan's own words, with none behind them
 module _ (start step : ℕ) {s : List ℕ} {t : Tree} (accepted : Accepted 64 s t) where
-  alone : planWords (fold 64 start step t) ++ [] ≡ planWords (fold 64 start step t)
-  alone = append-nil (planWords (fold 64 start step t))
+  alone : planWords (spanOf t) (fold 64 start step t) ++ [] ≡ planWords (spanOf t) (fold 64 start step t)
+  alone = append-nil (planWords (spanOf t) (fold 64 start step t))
 
-  pub accepted-sound : refusal (planWords (fold 64 start step t)) ≡ 0
+  pub accepted-sound : refusal (planWords (spanOf t) (fold 64 start step t)) ≡ 0
   accepted-sound = subst (λ p. refusal p ≡ 0) alone (compiled-accepted 64 start step (omega arith) accepted [])
 
-  pub accepted-values : (n : ℕ) → pointValues 64 n (planWords (fold 64 start step t)) ≡ directValues 64 start step t 0 n
+  pub accepted-values : (n : ℕ) → pointValues 64 n (planWords (spanOf t) (fold 64 start step t)) ≡ directValues 64 start step t 0 n
   unfolding planAfter
-  accepted-values n = values-from 64 start step t (planWords (fold 64 start step t)) same n 0
+  accepted-values n = values-from 64 start step t (planWords (spanOf t) (fold 64 start step t)) same n 0
     where
-      same : (i : ℕ) → rootValue 64 (planAfter 64 i (planWords (fold 64 start step t))) ≡ directValue 64 start step t i
+      same : (i : ℕ) → rootValue 64 (planAfter 64 i (planWords (spanOf t) (fold 64 start step t))) ≡ directValue 64 start step t i
       same i = ap (λ p. rootValue 64 (planAfter 64 i p)) (sym alone) ∙ compiled-value 64 start step (omega arith) accepted [] i

@@ -17,14 +17,13 @@ use Rattle.formula_scan.proofs.Verdicts.{refused-verdict, accepted-verdict}
 use Rattle.plan.specs.Plan.{rowCount, cost, refusal}
 use Rattle.plan.specs.Filling.{planAfter, pointValues}
 use Rattle.plan.proofs.RowLaws.{part, partPut}
-use Rattle.fold.specs.Folding.{fold}
-use Rattle.fold.specs.Layout.{planWords}
 use Rattle.fold.specs.declared.CompileAnswer.{CompileAnswer}
 use Rattle.fold.specs.Compiling.{Compiling, too-short, refused, accepted}
 use Rattle.table_fields.specs.Writing.{Wrote}
 use Rattle.table_fields.proofs.Joining.{wrote-same}
 use Rattle.table.specs.declared.JobLine.{JobLine}
-use Rattle.table.specs.Lines.{noLine, jobLine, pointLines, directValues}
+use Rattle.table.specs.Lines.{noLine, jobLine, pointLines}
+use Rattle.table.specs.Run.{jobPlan, acceptedLines}
 use Rattle.table_progress.specs.Printed.{planPrints, verdictPrints, judgedPrints}
 use Rattle.table_progress.specs.Printed.{verdictPlan, verdictTable, JobPrinted}
 use Rattle.table_progress.proofs.DirectValues.{accepted-sound, accepted-values}
@@ -48,17 +47,12 @@ module _ (n : ℕ) (job : JobLine) (formula : List ℕ) where
 
     -- "An accepted job prints `job`, its number from 1, rows, plan cost; then for each point its index and value": the value that the formula
     -- has by its meaning alone, without a plan.
-    pub prints-accepted : {t : Tree} → Accepted 64 formula t
-        → judgedPrints n job formula
-        ≡ jobLine n (rowCount (planWords (fold 64 (job .start) (job .step) t))) (cost (planWords (fold 64 (job .start) (job .step) t)))
-        ++ pointLines 0 (directValues 64 (job .start) (job .step) t 0 (job .count))
+    pub prints-accepted : {t : Tree} → Accepted 64 formula t → judgedPrints n job formula ≡ acceptedLines n job t
     unfolding verdictPrints
     prints-accepted {t} found =
         prints-verdict (Verdict.accepted t) (accepted-verdict formula found)
-        ∙ ap (λ values. jobLine n (rowCount p) (cost p) ++ pointLines 0 values) (accepted-values (job .start) (job .step) found (job .count))
-      where
-        p : List ℕ
-        p = planWords (fold 64 (job .start) (job .step) t)
+        ∙ ap (λ values. jobLine n (rowCount (jobPlan job t)) (cost (jobPlan job t)) ++ pointLines 0 values)
+        (accepted-values (job .start) (job .step) found (job .count))
 
 -- ---- the lines, the plan and the table, as the code leaves them
 module _ (n : ℕ) (job : JobLine) (formula plan table out : List ℕ) where
@@ -90,17 +84,16 @@ module _ (n : ℕ) (job : JobLine) (formula plan table out : List ℕ) where
       line-taken e (Verdict.refused number place) (refused-verdict formula found) line refl refl
   formula-refused e long (accepted h found) some line = absurd (some refl)
 
-  -- A formula that compiling accepts: the plan's 2,561 words are all that was lent.
+  -- A formula that compiling accepts: the plan's 2,817 words are all that was lent.
   formula-accepted : {answer : CompileAnswer} {plan′ : List ℕ} → length plan ≡ planLength
       → Compiling 64 formula (job .start) (job .step) plan answer plan′ → answer .number ≡ 0
-      → (t : Tree) × Accepted 64 formula t × (plan′ ≡ planWords (fold 64 (job .start) (job .step) t))
+      → (t : Tree) × Accepted 64 formula t × (plan′ ≡ jobPlan job t)
   formula-accepted long (too-short h) none = absurd (omega arith)
   formula-accepted long (refused h found) none = absurd (omega (arith, none, fault-number (found .applies)))
   formula-accepted long (accepted {t} h found) none = (
     t,
     found,
-    ap (λ l. planWords (fold 64 (job .start) (job .step) t) ++ l) (drop-of-length-le plan {i = planLength} (omega arith))
-        ∙ append-nil (planWords (fold 64 (job .start) (job .step) t)),
+    ap (λ l. jobPlan job t ++ l) (drop-of-length-le plan {i = planLength} (omega arith)) ∙ append-nil (jobPlan job t),
   )
 
   module _ {answer : CompileAnswer} {plan′ : List ℕ} (long : length plan ≡ planLength)

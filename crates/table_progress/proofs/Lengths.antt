@@ -17,13 +17,12 @@ use Rattle.formula_scan.proofs.Verdicts.{verdict-accepted}
 use Rattle.plan.specs.Plan.{rowCount, cost, refusal}
 use Rattle.plan.specs.Filling.{pointValues}
 use Rattle.plan.proofs.Sharing.{length-points}
-use Rattle.fold.specs.Folding.{fold}
-use Rattle.fold.specs.Layout.{planWords}
 use Rattle.fold.proofs.FoldShape.{accepted-rows}
 use Rattle.table.specs.Decimal.{decimal}
 use Rattle.table.proofs.Digits.{word-digits}
 use Rattle.table.specs.Parts.{tab, lineFeed}
 use Rattle.table.specs.declared.JobLine.{JobLine}
+use Rattle.table.specs.Run.{jobPlan}
 use Rattle.table.specs.Lines.{threeNumbers, noLine, jobLine, pointLine, pointLines}
 use Rattle.table_progress.specs.Printed.{verdictPrints, judgedPrints}
 use Rattle.table_progress.proofs.AllPoints.{cost-most}
@@ -118,7 +117,7 @@ module _ (n : ℕ) (job : JobLine) (formula : List ℕ) (small : n < 2 ^ 64) (fe
       )
     where
       p : List ℕ
-      p = planWords (fold 64 (job .start) (job .step) t)
+      p = jobPlan job t
 
       values : List ℕ
       values = pointValues 64 (job .count) p

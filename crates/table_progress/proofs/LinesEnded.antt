@@ -9,14 +9,13 @@ use Rattle.plan.specs.Measures.{planLength}
 use Rattle.formula_scan.specs.Verdict.{Verdict, refused, accepted, verdict}
 use Rattle.plan.specs.Filling.{pointValues}
 use Rattle.plan.proofs.RowLaws.{part, partPut}
-use Rattle.fold.specs.Folding.{fold}
-use Rattle.fold.specs.Layout.{planWords}
 use Rattle.table_fields.specs.Writing.{Wrote}
 use Rattle.table_fields.proofs.Joining.{wrote-nothing, wrote-same}
 use Rattle.table.specs.Parts.{picked}
 use Rattle.table.specs.Judged.{isHeader, judgedDefaults, judgedJob}
 use Rattle.table.specs.declared.DefaultsLine.{DefaultsLine}
 use Rattle.table.specs.declared.JobLine.{JobLine}
+use Rattle.table.specs.Run.{jobPlan}
 use Rattle.table.proofs.PartsJudged.{job-small}
 use Rattle.table.specs.Lines.{noLine}
 use Rattle.table_progress.specs.Printed.{judgedPrints, jobPrints, verdictPlan, verdictTable, JobPrinted}
@@ -81,7 +80,7 @@ module _ (n : ℕ) (l kept plan table out : List ℕ) (room : 4096 ≤ length ta
   unfolding verdictTable
   table-whole (refused number place) = take-append-drop 4096 table
   table-whole (accepted t) =
-      put-front (pointValues 64 (r .count) (planWords (fold 64 (r .start) (r .step) t))) table (r .count) 4096 (few-points l kept judged) room
+      put-front (pointValues 64 (r .count) (jobPlan r t)) table (r .count) 4096 (few-points l kept judged) room
 
   table-put : (t : Bool) (v : Verdict) → cond t (verdictTable r v (part 0 4096 table)) (part 0 4096 table) ++ drop 4096 table
       ≡ cond t (verdictTable r v table) table

@@ -13,11 +13,10 @@ use Rattle.formula_scan.proofs.Verdicts.{verdict-accepted}
 use Rattle.plan.specs.Filling.{pointValues}
 use Rattle.plan.proofs.Keeping.{length-after}
 use Rattle.plan.proofs.Sharing.{length-points}
-use Rattle.fold.specs.Folding.{fold}
-use Rattle.fold.specs.Layout.{planWords}
 use Rattle.fold.proofs.Compiled.{compiled-length}
 use Rattle.table.specs.Parts.{picked}
 use Rattle.table.specs.declared.JobLine.{JobLine}
+use Rattle.table.specs.Run.{jobPlan}
 use Rattle.table.specs.Judged.{isHeader, judgedDefaults, judgedJob}
 use Rattle.table.proofs.PartsJudged.{job-small}
 use Rattle.table_progress.specs.Printed.{verdictPlan, verdictTable}
@@ -79,12 +78,12 @@ length-defaults theDefaults l buffer h =
 length-defaults (aJob kept n) l buffer h = refl
 length-defaults nothing l buffer h = refl
 
--- A formula that is taken has a plan of 2,561 words.
+-- A formula that is taken has a plan of 2,817 words.
 length-verdict-plan : (job : JobLine) (s plan : List ℕ) (v : Verdict) → verdict s ≡ v → length plan ≡ planLength → length (verdictPlan job v plan) ≡ planLength
 unfolding verdictPlan
 length-verdict-plan job s plan (refused number place) e h = h
 length-verdict-plan job s plan (accepted t) e h =
-    length-after 64 (job .count) (planWords (fold 64 (job .start) (job .step) t))
+    length-after 64 (job .count) (jobPlan job t)
     ∙ compiled-length 64 (job .start) (job .step) (omega arith) (verdict-accepted s e)
 
 pub length-plan-after : (awaits : Awaits) (l plan : List ℕ) → planLength ≤ length plan → length (planAfterLine awaits l plan) ≡ length plan
@@ -104,8 +103,8 @@ length-verdict-table : (job : JobLine) (table : List ℕ) (v : Verdict) → job 
 unfolding verdictTable
 length-verdict-table job table (refused number place) h = refl
 length-verdict-table job table (accepted t) h =
-    length-front table (pointValues 64 (job .count) (planWords (fold 64 (job .start) (job .step) t))) (job .count)
-    (length-points 64 (job .count) (planWords (fold 64 (job .start) (job .step) t)) ∙ sym (length-take-le (job .count) table h))
+    length-front table (pointValues 64 (job .count) (jobPlan job t)) (job .count)
+    (length-points 64 (job .count) (jobPlan job t) ∙ sym (length-take-le (job .count) table h))
 
 pub length-table-after : (awaits : Awaits) (l table : List ℕ) → 4096 ≤ length table → length (tableAfterLine awaits l table) ≡ length table
 length-table-after theHeader l table h = refl

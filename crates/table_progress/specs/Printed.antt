@@ -4,18 +4,15 @@ use mathlib.Core.Bool.{cond}
 use mathlib.Core.List.{List, _++_}
 use Prim.Native.Nat.{ℕ}
 use lib.ListN.{drop}
-use Rattle.formula.specs.Tree.{Tree}
 use Rattle.formula_scan.specs.Verdict.{Verdict, refused, accepted, verdict}
 use Rattle.plan.specs.Plan.{rowCount, cost}
 use Rattle.plan.specs.Filling.{planAfter, pointValues}
-use Rattle.fold.specs.Folding.{fold}
-use Rattle.fold.specs.Layout.{planWords}
-use Rattle.table.specs.Lines.{noLine, jobLine, pointLines}
 use Rattle.table_fields.specs.Writing.{Wrote}
 use Rattle.table.specs.Parts.{picked}
 use Rattle.table.specs.Judged.{judgedJob}
 use Rattle.table.specs.Lines.{noLine, jobLine, pointLines}
 use Rattle.table.specs.declared.JobLine.{JobLine}
+use Rattle.table.specs.Run.{jobPlan}
 
 -- What job n prints for a plan: its first points, as filling writes them.
 abbrev pub planPrints : ℕ → ℕ → List ℕ → List ℕ
@@ -24,7 +21,7 @@ planPrints n points p = jobLine n (rowCount p) (cost p) ++ pointLines 0 (pointVa
 -- "An accepted job prints `job` ..; A refused one prints `no` ..", for a formula's own refusal or tree.
 unfoldable pub verdictPrints : ℕ → JobLine → Verdict → List ℕ
 verdictPrints n job (refused number place) = noLine n number place
-verdictPrints n job (accepted t) = planPrints n (job .count) (planWords (fold 64 (job .start) (job .step) t))
+verdictPrints n job (accepted t) = planPrints n (job .count) (jobPlan job t)
 
 -- "In a job line refusal 11 comes ahead of the formula's own."
 unfoldable pub judgedPrints : ℕ → JobLine → List ℕ → List ℕ
@@ -35,17 +32,16 @@ abbrev pub jobPrints : ℕ → List ℕ → List ℕ → List ℕ
 jobPrints n l defaults = judgedPrints n (judgedJob l defaults) (picked 1 l defaults)
 
 -- ---- what is left in the plan's own words and in the table
--- "Compiling writes all 2,561 words", and filling leaves the plan shifted by the points written; a refusal alters nothing.
+-- "Compiling writes all" 2,817 words, and filling leaves the plan shifted by the points written; a refusal alters nothing.
 unfoldable pub verdictPlan : JobLine → Verdict → List ℕ → List ℕ
 verdictPlan job (refused number place) plan = plan
-verdictPlan job (accepted t) plan = planAfter 64 (job .count) (planWords (fold 64 (job .start) (job .step) t))
+verdictPlan job (accepted t) plan = planAfter 64 (job .count) (jobPlan job t)
 
 unfoldable pub verdictTable : JobLine → Verdict → List ℕ → List ℕ
 verdictTable job (refused number place) table = table
-verdictTable job (accepted t) table =
-    pointValues 64 (job .count) (planWords (fold 64 (job .start) (job .step) t)) ++ drop (job .count) table
+verdictTable job (accepted t) table = pointValues 64 (job .count) (jobPlan job t) ++ drop (job .count) table
 
--- A job printed into a lent buffer by a plan of 2,561 words and a table: the place behind what it prints, and every word afterwards.
+-- A job printed into a lent buffer by a plan of 2,817 words and a table: the place behind what it prints, and every word afterwards.
 pub record JobPrinted (n : ℕ) (job : JobLine) (formula plan table out : List ℕ) (r : ℕ) (plan′ table′ out′ : List ℕ) : Type 0 where
   pub prints : Wrote out 0 (judgedPrints n job formula) r out′
   pub leaves : plan′ ≡ cond (job .ok) (verdictPlan job (verdict formula) plan) plan

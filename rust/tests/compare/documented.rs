@@ -25,8 +25,9 @@ fn chains_and_rows() {
     assert_eq!(elements(&compiled("3*x+1", 5, 2)), [16, 6]);
     assert_eq!(elements(&compiled("x^2", 0, 1 << 32)), [0]);
     assert_eq!(elements(&compiled("-x^2", 0, 1)), [0, u64::MAX, u64::MAX - 1]);
-    assert_eq!(compiled("x^2+x", 0, 1 << 63), compiled("x", 0, 1 << 63));
-    let of = |text: &str| (compiled(text, 0, 1).rows(), compiled(text, 0, 1).cost());
+    assert_eq!(elements(&compiled("x^2+x", 0, 1 << 63)), [0, 1 << 63]);
+    assert_eq!(elements(&compiled("x", 0, 1 << 63)), [0, 1 << 63]);
+    let of = |text: &str| (compiled(text, 0, 1).rows().len(), compiled(text, 0, 1).cost());
     assert_eq!([of("3^(3^(x))"), of("x^17"), of("x^8*x^8"), of("x^8*x^9")], [(3, 129), (2, 17), (1, 16), (3, 18)]);
     let mut table = [0; 4];
     compiled("3^(3^(x))", 0, 1).fill(&mut table, u64::MAX);

@@ -23,6 +23,7 @@ fn some_plan(random: &mut Random) -> Vec<u64> {
     let mut plan = vec![0; PLAN_WORDS];
     plan[..4].copy_from_slice(&[1, 1, length as u64, 0]);
     plan[4..=4 + length].fill_with(|| word(random));
+    plan[22] = 1;
     plan
 }
 

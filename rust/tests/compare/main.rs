@@ -15,6 +15,8 @@ mod plans;
 mod readings;
 #[cfg(otterchime_linked)]
 mod rows;
+#[cfg(otterchime_linked)]
+mod spans;
 
 use printer::random::Random;
 use std::io::Write;

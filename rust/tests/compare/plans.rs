@@ -1,34 +1,32 @@
 //! Compiling, filling, cost and soundness: compiled plans against direct values, and damaged plans against their words.
 use crate::{on_many, rows, word};
-use otterchime::{compile, cost, fill, sound, Filled, Plan, Refusal, PLAN_WORDS};
-use printer::folding::{folded, Folded};
+use otterchime::{compile, cost, fill, sound, Filled, Plan, Refusal, PLAN_WORDS, ROW_WORDS};
+use printer::folding::{part, Row};
 use printer::formula::{read, value, Tree};
 use printer::random::Random;
 
 const BEHIND: usize = 3;
 const MOST_POINTS: usize = 40;
 
-/// The words of a plan with one row, which is all that a constant or a chain has.
-fn one_row(plan: &Folded) -> Option<Vec<u64>> {
-    let (kind, chain) = match plan {
-        Folded::Constant(word) => (0, vec![*word]),
-        Folded::Sums(chain) => (1, chain.clone()),
-        Folded::Products(chain) => (2, chain.clone()),
-        Folded::Rows { .. } => return None,
-    };
-    let mut words = vec![1, kind, chain.len() as u64 - 1, 0];
-    words.extend(chain);
+/// The words of a plan of these rows.
+fn words_of(rows: &[Row]) -> Vec<u64> {
+    let mut words = vec![rows.len() as u64];
+    for row in rows {
+        let elements = row.elements.iter().copied().chain(std::iter::repeat(0)).take(17);
+        words.extend([row.kind, row.a, row.b].into_iter().chain(elements));
+        words.extend([row.span.start as u64, row.span.end as u64]);
+    }
     words.resize(PLAN_WORDS, 0);
-    Some(words)
+    words
 }
 
-struct Grid {
-    start: u64,
-    step: u64,
+pub struct Grid {
+    pub start: u64,
+    pub step: u64,
 }
 
 impl Grid {
-    fn random(random: &mut Random) -> Grid {
+    pub fn random(random: &mut Random) -> Grid {
         Grid { start: word(random), step: word(random) }
     }
 
@@ -69,11 +67,10 @@ fn fill_some(plan: &mut [u64], point_cost: u64, random: &mut Random, expected: i
 }
 
 fn check_accepted(text: &[u8], tree: &Tree, grid: &Grid, plan: &mut [u64], random: &mut Random) {
-    let expected = folded(tree, grid.start, grid.step);
+    let whole = part(tree, grid.start, grid.step);
+    let expected = &whole.folded;
     assert_eq!((plan[0], cost(plan), sound(plan)), (expected.rows(), Ok(expected.cost()), Ok(())));
-    if let Some(words) = one_row(&expected) {
-        assert_eq!(plan[..PLAN_WORDS], words);
-    }
+    assert_eq!(plan[..PLAN_WORDS], words_of(&whole.plan()));
     assert!(rows::is_sound(plan));
     let points = fill_some(plan, expected.cost() + 1, random, |i| value(tree, grid.x(i)));
     if expected.sums().is_some() {
@@ -118,8 +115,8 @@ pub fn damaged(random: &mut Random) -> Vec<u64> {
     let Grid { start, step } = Grid::random(random);
     let mut plan = Plan::compile(&text, start, step).map_or(vec![0; PLAN_WORDS], |plan| plan.words().to_vec());
     for _ in 0..random.between(0, 2) {
-        let rows = 20 * plan[0].min(127) as usize;
-        let at = if random.percent(90) { random.below(rows + 21) } else { random.below(PLAN_WORDS) };
+        let rows = ROW_WORDS * plan[0].min(127) as usize;
+        let at = if random.percent(90) { random.below(rows + ROW_WORDS + 1) } else { random.below(PLAN_WORDS) };
         plan[at] = match random.below(3) {
             0 => random.below(9) as u64,
             1 => plan[at] ^ (1 << random.below(6)),
@@ -153,7 +150,7 @@ fn damaged_plans() {
 
 #[test]
 fn short_plans() {
-    for length in [0, 1, 20, 2560] {
+    for length in [0, 1, 22, 2561, 2816] {
         let mut plan = vec![1; length];
         let mut table = [7; 5];
         assert_eq!(sound(&plan), Err(Refusal::PlanTooShort));

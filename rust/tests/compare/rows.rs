@@ -4,21 +4,25 @@ use printer::folding::{binomials, value_at};
 use printer::formula::power;
 
 const MOST_ROWS: u64 = 128;
+const ROW_WORDS: usize = 22;
+const LONGEST_TEXT: u64 = 1024;
 
 struct Row<'a> {
     kind: u64,
     a: u64,
     b: u64,
     elements: &'a [u64],
+    first: u64,
+    end: u64,
 }
 
 fn row(plan: &[u64], r: u64) -> Row<'_> {
-    let words = &plan[1 + 20 * r as usize..][..20];
-    Row { kind: words[0], a: words[1], b: words[2], elements: &words[3..] }
+    let words = &plan[1 + ROW_WORDS * r as usize..][..ROW_WORDS];
+    Row { kind: words[0], a: words[1], b: words[2], elements: &words[3..20], first: words[20], end: words[21] }
 }
 
 fn is_sound_row(plan: &[u64], r: u64) -> bool {
-    let Row { kind, a, b, elements } = row(plan, r);
+    let Row { kind, a, b, elements, first, end } = row(plan, r);
     let columns = match kind {
         0 => a == 0 && b == 0,
         1 | 2 => (1..=16).contains(&a) && b == 0,
@@ -34,14 +38,14 @@ fn is_sound_row(plan: &[u64], r: u64) -> bool {
         1 | 2 => a + 1,
         _ => 0,
     };
-    elements[used as usize..].iter().all(|word| *word == 0)
+    elements[used as usize..].iter().all(|word| *word == 0) && first < end && end <= LONGEST_TEXT
 }
 
 pub fn is_sound(plan: &[u64]) -> bool {
     let rows = plan[0];
     (1..=MOST_ROWS).contains(&rows)
         && (0..rows).all(|r| is_sound_row(plan, r))
-        && plan[1 + 20 * rows as usize..PLAN_WORDS].iter().all(|word| *word == 0)
+        && plan[1 + ROW_WORDS * rows as usize..PLAN_WORDS].iter().all(|word| *word == 0)
 }
 
 pub fn cost(plan: &[u64]) -> u64 {
@@ -65,7 +69,7 @@ pub fn root_chain(plan: &[u64]) -> Option<&[u64]> {
 pub fn root_at(plan: &[u64], i: usize) -> u64 {
     let mut values: Vec<u64> = vec![];
     for r in 0..plan[0] {
-        let Row { kind, a, b, elements } = row(plan, r);
+        let Row { kind, a, b, elements, .. } = row(plan, r);
         let of = |operand: u64| values[operand as usize];
         values.push(match kind {
             0 => elements[0],

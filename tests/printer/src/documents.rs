@@ -1,5 +1,5 @@
 //! The examples that document 01 and the readings work out by hand, held against this implementation.
-use crate::folding::{folded, Folded};
+use crate::folding::{folded, part, Folded};
 use crate::formula::{read, value};
 use crate::tables::tables;
 
@@ -58,6 +58,40 @@ fn rows_of_the_edges() {
     }
     assert_eq!(fold("x^17", 0, 1 << 32).rows(), 2);
     assert_eq!(fold("x^17", 3, 0).rows(), 1);
+}
+
+/// Kind, first and end byte of each row.
+fn spans(text: &str) -> Vec<(u64, usize, usize)> {
+    let tree = read(text.as_bytes()).ok().expect("accepted");
+    part(&tree, 0, 1).plan().iter().map(|row| (row.kind, row.span.start, row.span.end)).collect()
+}
+
+#[test]
+fn spans_of_the_documents() {
+    let known: [(&str, &[(u64, usize, usize)]); 19] = [
+        ("(x+1)", &[(1, 1, 4)]),
+        ("((x+1))", &[(1, 2, 5)]),
+        ("(x+1)*2", &[(1, 0, 7)]),
+        ("3^(x)", &[(2, 0, 5)]),
+        ("(3)^((x))", &[(2, 0, 9)]),
+        ("0-(x^17)", &[(1, 3, 4), (7, 3, 7), (6, 0, 8)]),
+        ("-(x^17)", &[(1, 2, 3), (7, 2, 6), (6, 0, 7)]),
+        ("1*(x^17)", &[(1, 3, 4), (7, 0, 8)]),
+        ("(x^17)*1", &[(1, 1, 2), (7, 0, 8)]),
+        ("x^17+0", &[(1, 0, 1), (7, 0, 6)]),
+        ("(0+(x)^17)", &[(1, 4, 5), (7, 1, 9)]),
+        ("x^17-0", &[(1, 0, 1), (7, 0, 6)]),
+        ("(x^17)^1", &[(1, 1, 2), (7, 0, 8)]),
+        ("(x^17)^0", &[(0, 0, 8)]),
+        ("0*x^17", &[(0, 0, 6)]),
+        ("((x)+(3^(x)))", &[(1, 2, 3), (2, 6, 11), (3, 1, 12)]),
+        ("3^((3^(x)))", &[(0, 0, 1), (2, 4, 9), (8, 0, 11)]),
+        ("1*(0+(x^17))-x", &[(1, 6, 7), (7, 0, 12), (1, 13, 14), (4, 0, 14)]),
+        ("x^8*x^9", &[(1, 0, 3), (1, 4, 7), (5, 0, 7)]),
+    ];
+    for (text, expected) in known {
+        assert_eq!(spans(text), expected, "{text}");
+    }
 }
 
 #[test]

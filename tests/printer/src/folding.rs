@@ -1,13 +1,37 @@
-//! How many rows a formula's plan has on a grid, and what it costs. Chains are lists of words, first element first. A
+//! What a formula folds to on a grid: the rows of its plan, and what it costs. Chains are lists of words, first element first. A
 //! product or a power of sum chains is taken value by value and turned back into a chain by differences.
-use crate::formula::{power, Tree};
+use crate::formula::{power, Node, Tree};
+use std::ops::Range;
 
 #[derive(Clone, Debug, PartialEq)]
 pub enum Folded {
     Constant(u64),
     Sums(Vec<u64>),
     Products(Vec<u64>),
-    Rows { rows: u64, cost: u64 },
+    /// What stays a row, by its kind in 01's table; `times` is a literal power's exponent and else 0.
+    Operator {
+        kind: u64,
+        times: u64,
+        operands: Vec<Part>,
+    },
+}
+
+/// What a part of the formula folds to, and the bytes that it stands for. A folded part stands for all of its operator's bytes, and so
+/// does an operand that is passed through; the operands of a row stand for their own.
+#[derive(Clone, Debug, PartialEq)]
+pub struct Part {
+    pub folded: Folded,
+    pub span: Range<usize>,
+}
+
+/// A row of a plan.
+#[derive(Clone, Debug, PartialEq)]
+pub struct Row {
+    pub kind: u64,
+    pub a: u64,
+    pub b: u64,
+    pub elements: Vec<u64>,
+    pub span: Range<usize>,
 }
 
 use Folded::*;
@@ -16,19 +40,18 @@ const LONGEST: usize = 16;
 
 impl Folded {
     pub fn rows(&self) -> u64 {
-        if let Rows { rows, .. } = self {
-            *rows
-        } else {
-            1
-        }
+        1 + self.operands().iter().map(|operand| operand.folded.rows()).sum::<u64>()
     }
 
     pub fn cost(&self) -> u64 {
-        match self {
+        let own = match self {
             Constant(_) => 0,
             Sums(chain) | Products(chain) => chain.len() as u64 - 1,
-            Rows { cost, .. } => *cost,
-        }
+            Operator { kind: 7, times, .. } => times - 1,
+            Operator { kind: 8, .. } => 128,
+            Operator { .. } => 1,
+        };
+        own + self.operands().iter().map(|operand| operand.folded.cost()).sum::<u64>()
     }
 
     /// A constant or a sum chain as the elements of a sum chain.
@@ -39,13 +62,40 @@ impl Folded {
             _ => None,
         }
     }
+
+    fn operands(&self) -> &[Part] {
+        match self {
+            Operator { operands, .. } => operands,
+            _ => &[],
+        }
+    }
+}
+
+impl Part {
+    /// The rows of the plan, left operand first and root last.
+    pub fn plan(&self) -> Vec<Row> {
+        let mut rows = vec![];
+        self.lay_out(&mut rows);
+        rows
+    }
+
+    /// Adds the rows behind those that are there, and answers the root's number.
+    fn lay_out(&self, rows: &mut Vec<Row>) -> u64 {
+        let operands: Vec<u64> = self.folded.operands().iter().map(|operand| operand.lay_out(rows)).collect();
+        let (kind, a, b, elements) = match &self.folded {
+            Constant(word) => (0, 0, 0, vec![*word]),
+            Sums(chain) => (1, chain.len() as u64 - 1, 0, chain.clone()),
+            Products(chain) => (2, chain.len() as u64 - 1, 0, chain.clone()),
+            Operator { kind, times, .. } => (*kind, operands[0], *operands.get(1).unwrap_or(times), vec![]),
+        };
+        rows.push(Row { kind, a, b, elements, span: self.span.clone() });
+        rows.len() as u64 - 1
+    }
 }
 
 /// A row over the rows of its operands.
-fn row(cost: u64, operands: &[&Folded]) -> Folded {
-    let rows = operands.iter().map(|operand| operand.rows()).sum::<u64>();
-    let below = operands.iter().map(|operand| operand.cost()).sum::<u64>();
-    Rows { rows: rows + 1, cost: below + cost }
+fn row(kind: u64, operands: Vec<Part>) -> Folded {
+    Operator { kind, times: 0, operands }
 }
 
 fn without_last(mut chain: Vec<u64>, neutral: u64) -> Vec<u64> {
@@ -106,36 +156,36 @@ pub fn chain_of(length: usize, value: impl Fn(usize) -> u64) -> Folded {
     trimmed_sums(chain)
 }
 
-fn plus(a: Folded, b: Folded) -> Folded {
-    match (a.sums(), b.sums()) {
+fn plus(a: Part, b: Part) -> Folded {
+    match (a.folded.sums(), b.folded.sums()) {
         (Some(f), Some(g)) => trimmed_sums(element_wise(&f, &g, 0, u64::wrapping_add)),
-        _ if a == Constant(0) => b,
-        _ if b == Constant(0) => a,
-        _ => row(1, &[&a, &b]),
+        _ if a.folded == Constant(0) => b.folded,
+        _ if b.folded == Constant(0) => a.folded,
+        _ => row(3, vec![a, b]),
     }
 }
 
-fn minus(a: Folded, b: Folded) -> Folded {
-    match (a.sums(), b.sums()) {
+fn minus(a: Part, b: Part) -> Folded {
+    match (a.folded.sums(), b.folded.sums()) {
         (Some(f), Some(g)) => trimmed_sums(element_wise(&f, &g, 0, u64::wrapping_sub)),
-        _ if b == Constant(0) => a,
-        _ if a == Constant(0) => negative(b),
-        _ => row(1, &[&a, &b]),
+        _ if b.folded == Constant(0) => a.folded,
+        _ if a.folded == Constant(0) => negative(b),
+        _ => row(4, vec![a, b]),
     }
 }
 
-fn times(a: Folded, b: Folded) -> Folded {
-    match (a, b) {
+fn times(a: Part, b: Part) -> Folded {
+    match (&a.folded, &b.folded) {
         (Constant(0), _) | (_, Constant(0)) => Constant(0),
-        (Constant(1), other) | (other, Constant(1)) => other,
-        (Constant(c), Constant(d)) => Constant(c.wrapping_mul(d)),
-        (Constant(c), Sums(f)) | (Sums(f), Constant(c)) => trimmed_sums(f.into_iter().map(|word| word.wrapping_mul(c)).collect()),
-        (Constant(c), Products(f)) | (Products(f), Constant(c)) => first_times(c, f),
-        (Products(f), Products(g)) => trimmed_products(element_wise(&f, &g, 1, u64::wrapping_mul)),
+        (Constant(1), other) | (other, Constant(1)) => other.clone(),
+        (Constant(c), Constant(d)) => Constant(c.wrapping_mul(*d)),
+        (Constant(c), Sums(f)) | (Sums(f), Constant(c)) => trimmed_sums(f.iter().map(|word| word.wrapping_mul(*c)).collect()),
+        (Constant(c), Products(f)) | (Products(f), Constant(c)) => first_times(*c, f.clone()),
+        (Products(f), Products(g)) => trimmed_products(element_wise(f, g, 1, u64::wrapping_mul)),
         (Sums(f), Sums(g)) if f.len() - 1 + g.len() - 1 <= LONGEST => {
-            chain_of(f.len() + g.len() - 2, |i| value_at(&f, i).wrapping_mul(value_at(&g, i)))
+            chain_of(f.len() + g.len() - 2, |i| value_at(f, i).wrapping_mul(value_at(g, i)))
         }
-        (a, b) => row(1, &[&a, &b]),
+        _ => row(5, vec![a, b]),
     }
 }
 
@@ -144,45 +194,50 @@ fn first_times(c: u64, mut chain: Vec<u64>) -> Folded {
     trimmed_products(chain)
 }
 
-fn negative(a: Folded) -> Folded {
-    match a {
+fn negative(a: Part) -> Folded {
+    match a.folded {
         Constant(c) => Constant(c.wrapping_neg()),
         Sums(f) => trimmed_sums(f.into_iter().map(u64::wrapping_neg).collect()),
         Products(f) => first_times(u64::MAX, f),
-        rows => row(1, &[&rows]),
+        Operator { .. } => row(6, vec![a]),
     }
 }
 
-fn literal_power(a: Folded, n: u64) -> Folded {
-    match (a, n) {
+fn literal_power(a: Part, n: u64) -> Folded {
+    match (a.folded, n) {
         (_, 0) => Constant(1),
-        (a, 1) => a,
+        (folded, 1) => folded,
         (Constant(c), _) => Constant(power(c, n)),
         (Sums(f), _) if (f.len() - 1) * n as usize <= LONGEST => chain_of((f.len() - 1) * n as usize, |i| power(value_at(&f, i), n)),
         (Products(f), _) => trimmed_products(f.into_iter().map(|word| power(word, n)).collect()),
-        (a, _) => row(n - 1, &[&a]),
+        (folded, _) => Operator { kind: 7, times: n, operands: vec![Part { folded, span: a.span }] },
     }
 }
 
-fn raised(base: Folded, exponent: Folded) -> Folded {
-    match (base, exponent) {
-        (Constant(c), Constant(d)) => Constant(power(c, d)),
-        (Constant(c), Sums(f)) => trimmed_products(f.into_iter().map(|word| power(c, word)).collect()),
-        (base, exponent) => row(128, &[&base, &exponent]),
+fn raised(base: Part, exponent: Part) -> Folded {
+    match (&base.folded, &exponent.folded) {
+        (Constant(c), Constant(d)) => Constant(power(*c, *d)),
+        (Constant(c), Sums(f)) => trimmed_products(f.iter().map(|word| power(*c, *word)).collect()),
+        _ => row(8, vec![base, exponent]),
     }
 }
 
 /// The folded tree, from the bottom up.
 pub fn folded(tree: &Tree, start: u64, step: u64) -> Folded {
-    let of = |operand: &Tree| folded(operand, start, step);
-    match tree {
-        Tree::Number(word) => Constant(*word),
-        Tree::X => trimmed_sums(vec![start, step]),
-        Tree::Plus(a, b) => plus(of(a), of(b)),
-        Tree::Minus(a, b) => minus(of(a), of(b)),
-        Tree::Times(a, b) => times(of(a), of(b)),
-        Tree::Negative(a) => negative(of(a)),
-        Tree::Power(a, n) => literal_power(of(a), *n),
-        Tree::Raise { base, exponent, .. } => raised(of(base), of(exponent)),
+    let of = |operand: &Tree| part(operand, start, step);
+    match &tree.node {
+        Node::Number(word) => Constant(*word),
+        Node::X => trimmed_sums(vec![start, step]),
+        Node::Plus(a, b) => plus(of(a), of(b)),
+        Node::Minus(a, b) => minus(of(a), of(b)),
+        Node::Times(a, b) => times(of(a), of(b)),
+        Node::Negative(a) => negative(of(a)),
+        Node::Power(a, n) => literal_power(of(a), *n),
+        Node::Raise { base, exponent, .. } => raised(of(base), of(exponent)),
     }
+}
+
+/// The same with the bytes of the tree's text.
+pub fn part(tree: &Tree, start: u64, step: u64) -> Part {
+    Part { folded: folded(tree, start, step), span: tree.span.clone() }
 }

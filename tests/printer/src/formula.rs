@@ -1,8 +1,15 @@
 //! A formula's tree, its direct value, and the refusals 2 to 8. The tree comes from cutting the text at its last operator
 //! outside all brackets; that the text is in the grammar is known before.
 use crate::grammar;
+use std::ops::Range;
 
-pub enum Tree {
+/// A node, and the bytes of the text that it stands for, without brackets around them.
+pub struct Tree {
+    pub node: Node,
+    pub span: Range<usize>,
+}
+
+pub enum Node {
     Number(u64),
     X,
     Plus(Box<Tree>, Box<Tree>),
@@ -13,7 +20,7 @@ pub enum Tree {
     Raise { base: Box<Tree>, exponent: Box<Tree>, place: usize },
 }
 
-use Tree::*;
+use Node::*;
 
 /// A refusal's number and place.
 pub type Refusal = (u64, usize);
@@ -97,36 +104,45 @@ fn last_outside(text: &[u8], will_do: impl Fn(usize) -> bool) -> Option<usize> {
     found
 }
 
-/// The tree of a text in the grammar, all of whose numbers are words; at is the text's place in the whole formula.
+/// The tree of a text in the grammar, all of whose numbers are words; at is the text's place in the whole formula. A text in
+/// brackets has the tree of what is inside them.
 fn tree(text: &[u8], at: usize) -> Tree {
+    match node(text, at) {
+        Some(node) => Tree { node, span: at..at + text.len() },
+        None => tree(&text[1..text.len() - 1], at + 1),
+    }
+}
+
+/// The root of such a text, or nothing where brackets are around it.
+fn node(text: &[u8], at: usize) -> Option<Node> {
     let ends_operand = |byte: u8| byte.is_ascii_digit() || byte == b'x' || byte == b')';
     let joins_products = |place: usize| place > 0 && matches!(text[place], b'+' | b'-') && ends_operand(text[place - 1]);
     let left = |place: usize| Box::new(tree(&text[..place], at));
     let right = |place: usize| Box::new(tree(&text[place + 1..], at + place + 1));
     if let Some(place) = last_outside(text, joins_products) {
-        return if text[place] == b'+' { Plus(left(place), right(place)) } else { Minus(left(place), right(place)) };
+        return Some(if text[place] == b'+' { Plus(left(place), right(place)) } else { Minus(left(place), right(place)) });
     }
     if let Some(place) = last_outside(text, |place| text[place] == b'*') {
-        return Times(left(place), right(place));
+        return Some(Times(left(place), right(place)));
     }
     if text[0] == b'-' {
-        return Negative(right(0));
+        return Some(Negative(right(0)));
     }
     if let Some(place) = last_outside(text, |place| text[place] == b'^') {
-        return match number(&text[place + 1..]) {
+        return Some(match number(&text[place + 1..]) {
             Some(times) => Power(left(place), times),
             None => Raise { base: left(place), exponent: right(place), place: at + place },
-        };
+        });
     }
     match text[0] {
-        b'(' => tree(&text[1..text.len() - 1], at + 1),
-        b'x' => X,
-        _ => Number(number(text).expect("a number that is a word")),
+        b'(' => None,
+        b'x' => Some(X),
+        _ => Some(Number(number(text).expect("a number that is a word"))),
     }
 }
 
 fn operands(tree: &Tree) -> Vec<&Tree> {
-    match tree {
+    match &tree.node {
         Number(_) | X => vec![],
         Negative(a) | Power(a, _) => vec![a],
         Plus(a, b) | Minus(a, b) | Times(a, b) => vec![a, b],
@@ -139,13 +155,13 @@ fn nodes(tree: &Tree) -> usize {
 }
 
 fn holds_x(tree: &Tree) -> bool {
-    matches!(tree, X) || operands(tree).into_iter().any(holds_x)
+    matches!(tree.node, X) || operands(tree).into_iter().any(holds_x)
 }
 
 /// The places of the raises with x in the base, or an even base.
 fn bad_raises(tree: &Tree) -> Vec<usize> {
     let mut places: Vec<usize> = operands(tree).into_iter().flat_map(bad_raises).collect();
-    if let Raise { base, place, .. } = tree {
+    if let Raise { base, place, .. } = &tree.node {
         if holds_x(base) || value(base, 0) % 2 == 0 {
             places.push(*place);
         }
@@ -155,7 +171,7 @@ fn bad_raises(tree: &Tree) -> Vec<usize> {
 
 /// The direct value, given the word that x is.
 pub fn value(tree: &Tree, x: u64) -> u64 {
-    match tree {
+    match &tree.node {
         Number(word) => *word,
         X => x,
         Plus(a, b) => value(a, x).wrapping_add(value(b, x)),

@@ -9,17 +9,17 @@ use Rattle.compile.proofs.compile.Tie as tie
 returns : tie.Need-returns
 returns c = too-short (c .if1 .taken)
 
-sub-read : tie.Need-sub-read
-sub-read c = search needs
+sub-read-spanned : tie.Need-sub-read-spanned
+sub-read-spanned c = search needs
 
-part-read-start : tie.Need-part-read-start
-part-read-start c = search needs
+part-read-spanned-start : tie.Need-part-read-spanned-start
+part-read-spanned-start c = search needs
 
-part-read-end : tie.Need-part-read-end
-part-read-end c = search needs
+part-read-spanned-end : tie.Need-part-read-spanned-end
+part-read-spanned-end c = search needs
 
-read-requires : tie.Need-read-requires
-read-requires c κs = search needs
+read-spanned-requires : tie.Need-read-spanned-requires
+read-spanned-requires c κs = search needs
 
 same-length : tie.Need-same-length
 same-length c = search needs
@@ -30,7 +30,7 @@ returns-2 c =
     let plan = c .before .before .before .before .before .before .before .before .before .args .plan .now in
     let start = c .before .before .before .before .before .before .before .before .before .args .start in
     let step = c .before .before .before .before .before .before .before .before .before .args .step in
-    read-refused text plan (omega arith) start step (c .before .before .before .before .read .ensures) (c .if2 .taken)
+    read-refused text plan (omega arith) start step (c .before .before .before .before .read-spanned .ensures) (c .if2 .taken)
 
 fold-tree-requires : tie.Need-fold-tree-requires
 fold-tree-requires c κs =
@@ -38,7 +38,7 @@ fold-tree-requires c κs =
     let plan = c .before .before .before .before .before .before .before .before .before .before .args .plan .now in
     let start = c .before .before .before .before .before .before .before .before .before .before .args .start in
     let step = c .before .before .before .before .before .before .before .before .before .before .args .step in
-    let found = read-accepted text plan (omega arith) (c .before .before .before .before .before .read .ensures) (c .before .if2 .left) in
+    let found = read-accepted text plan (omega arith) (c .before .before .before .before .before .read-spanned .ensures) (c .before .if2 .left) in
     (omega (arith, found .4), (found .0, accepted-compilable start step (found .1), found .2))
 
 same-length-2 : tie.Need-same-length-2
@@ -50,7 +50,7 @@ returns-3 c =
     let plan = c .before .before .before .before .before .before .before .before .before .before .before .before .before .args .plan .now in
     let start = c .before .before .before .before .before .before .before .before .before .before .before .before .before .args .start in
     let step = c .before .before .before .before .before .before .before .before .before .before .before .before .before .args .step in
-    read-compiled text plan (omega arith) start step (c .before .before .before .before .before .before .before .before .read .ensures)
+    read-compiled text plan (omega arith) start step (c .before .before .before .before .before .before .before .before .read-spanned .ensures)
     (c .before .before .before .before .if2 .left) (c .before .before .fold-tree .ensures)
 
 pub compile-spec : {M : Type 1} → statement M
@@ -58,10 +58,10 @@ compile-spec =
     tie.close
     (tie.spec
     returns
-    sub-read
-    part-read-start
-    part-read-end
-    read-requires
+    sub-read-spanned
+    part-read-spanned-start
+    part-read-spanned-end
+    read-spanned-requires
     same-length
     returns-2
     fold-tree-requires

@@ -9,7 +9,7 @@ use Rattle.fold_minus.proofs.fold_minus.Statement.{statement}
 use Rattle.fold_minus.proofs.fold_minus.Tie as tie
 
 sub-root : tie.Need-sub-root
-sub-root c = omega (arith, operand-some (c .before .pre .1 .1 .1))
+sub-root c = omega (arith, operand-some (c .before .pre .1 .1 .2))
 
 kind-requires : tie.Need-kind-requires
 kind-requires c κs = search needs
@@ -38,8 +38,8 @@ same-length c = search needs
 returns : tie.Need-returns
 returns c =
     let test = c .before .before .before .before .before .before .before .before .before .before in
-    λ a o.
-    leaves-negated a o (omega (arith, test .if1 .taken, test .before .kind .ensures))
+    λ s a o.
+    leaves-negated s a o (omega (arith, test .if1 .taken, test .before .kind .ensures))
     (c .before .before .before .before .zeros .ensures)
     (c .before .before .before .before .before .before .before .before .elements .ensures)
     (c .before .before .before .before .before .before .length-of .ensures) (c .before .before .before .difference .ensures)
@@ -53,7 +53,7 @@ elements-requires-2 c κs = search needs
 
 with-ones-requires : tie.Need-with-ones-requires
 with-ones-requires c κs =
-    operand-short (c .before .before .before .before .before .before .before .before .before .pre .1 .1 .1)
+    operand-short (c .before .before .before .before .before .before .before .before .before .pre .1 .1 .2)
     (omega (arith, c .before .before .before .before .before .before .kind .ensures, c .before .before .before .before .if2 .taken))
     (c .before .before .length-of2 .ensures)
 
@@ -79,8 +79,8 @@ returns-2 : tie.Need-returns-2
 returns-2 c =
     let test = c .before .before .before .before .before .before .before .before .before .before in
     let negated = c .before .before .before .before .wrapping-sub-u64 in
-    λ a o.
-    leaves-first-negated a o (sym (test .before .before .kind .ensures) ∙ test .if2 .taken)
+    λ s a o.
+    leaves-first-negated s a o (sym (test .before .before .kind .ensures) ∙ test .if2 .taken)
     (c .before .before .before .before .before .before .elements2 .ensures)
     (c .before .before .before .before .before .before .before .before .length-of2 .ensures) (c .before .before .before .before .before .with-ones .ensures)
     (difference-found 64 0 _ _ (negated .ok) (omega arith) (negated .ensures)) (c .before .before .put-product .ensures)
@@ -97,8 +97,8 @@ same-length-3 c = search needs
 returns-3 : tie.Need-returns-3
 returns-3 c =
     let test = c .before .before .before .before in
-    λ a o.
-    leaves-minus a o (omega (arith, operand-some o))
+    λ s a o.
+    leaves-minus s a o (omega (arith, operand-some o))
     (omega (arith, test .before .if1 .left, test .if2 .left, test .before .before .kind .ensures)) (c .before .before .append .ensures)
 
 pub fold-minus-spec : {M : Type 1} → statement M

@@ -11,7 +11,7 @@ use Rattle.fold_powers.proofs.fold_high_power.Statement.{statement}
 use Rattle.fold_powers.proofs.fold_high_power.Tie as tie
 
 sub-root : tie.Need-sub-root
-sub-root c = omega (arith, operand-some (c .before .pre .1 .1 .1 .1 .0 .1))
+sub-root c = omega (arith, operand-some (c .before .pre .1 .1 .1 .1 .0 .2))
 
 kind-requires : tie.Need-kind-requires
 kind-requires c κs = search needs
@@ -24,7 +24,7 @@ elements-requires c κs = search needs
 
 with-ones-requires : tie.Need-with-ones-requires
 with-ones-requires c κs =
-    operand-short (c .before .before .before .before .before .before .before .before .pre .1 .1 .1 .1 .0 .1)
+    operand-short (c .before .before .before .before .before .before .before .before .pre .1 .1 .1 .1 .0 .2)
     (omega (arith, c .before .before .before .before .before .kind .ensures, c .if1 .taken))
     (c .before .before .before .length-of .ensures)
 
@@ -56,7 +56,7 @@ mul-if3 : tie.Need-mul-if3
 mul-if3 c =
     let start = c .before .before .before .before .before .before .before .before .before in
     times-fits _ _
-    (operand-short (start .pre .1 .1 .1 .1 .0 .1) (omega (arith, c .before .before .before .before .before .before .kind .ensures, c .if2 .taken))
+    (operand-short (start .pre .1 .1 .1 .1 .0 .2) (omega (arith, c .before .before .before .before .before .before .kind .ensures, c .if2 .taken))
     (c .before .before .before .before .length-of .ensures))
     (start .pre .1 .1 .1 .0)
 
@@ -97,7 +97,7 @@ returns-3 c =
     let start = c .before .before .before .before .before .before .before .before .before .before .before .before .before in
     power-as-row (start .args .plan .now) (start .args .first) (start .args .end) (start .args .n)
     (c .before .before .before .before .before .before .before .before .before .before .kind .ensures) (start .pre .1 .1 .0) (start .pre .1 .1 .1 .1 .1)
-    (room-of-one (start .pre .1 .1 .1 .1 .0 .1) (start .pre .0) (start .pre .1 .0))
+    (room-of-one (start .pre .1 .1 .1 .1 .0 .2) (start .pre .0) (start .pre .1 .0))
     (c .before .before .before .before .before .before .before .before .length-of .ensures) (c .before .before .before .before .before .if1 .left)
     (either-way (c .before .before .before .before .if2 .came) (λ x. (x .0 .taken, x .1 .left)) (λ x. x .left))
     (c .before .before .append .ensures)

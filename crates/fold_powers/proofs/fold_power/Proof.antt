@@ -7,7 +7,7 @@ use Rattle.fold_powers.proofs.fold_power.Statement.{statement}
 use Rattle.fold_powers.proofs.fold_power.Tie as tie
 
 sub-root : tie.Need-sub-root
-sub-root c = omega (arith, operand-some (c .before .pre .1 .1 .1 .1))
+sub-root c = omega (arith, operand-some (c .before .pre .1 .1 .1 .2))
 
 kind-requires : tie.Need-kind-requires
 kind-requires c κs = search needs

@@ -9,10 +9,10 @@ use Rattle.fold_products.proofs.fold_product.Statement.{statement}
 use Rattle.fold_products.proofs.fold_product.Tie as tie
 
 sub-left-root : tie.Need-sub-left-root
-sub-left-root c = omega (arith, operands-some (c .before .pre .1 .1 .2))
+sub-left-root c = omega (arith, operands-some (c .before .pre .1 .1 .3))
 
 sub-right-root : tie.Need-sub-right-root
-sub-right-root c = omega (arith, operands-some (c .before .pre .1 .1 .2))
+sub-right-root c = omega (arith, operands-some (c .before .pre .1 .1 .3))
 
 is-constant-requires : tie.Need-is-constant-requires
 is-constant-requires c κs = search needs
@@ -20,7 +20,7 @@ is-constant-requires c κs = search needs
 move-down-requires : tie.Need-move-down-requires
 move-down-requires c κs =
     let start = c .before .before .before .before .before in
-    let roots = operands-some (start .pre .1 .1 .2) in
+    let roots = operands-some (start .pre .1 .1 .3) in
     (omega arith, (omega (arith, roots), (omega (arith, roots), omega arith)))
 
 same-length : tie.Need-same-length
@@ -30,7 +30,7 @@ returns : tie.Need-returns
 returns c =
     let ones = c .before .before .before .before in
     let start = ones .before .before .before .before in
-    λ a b o. one-left o (room-of-both o (start .pre .0) (start .pre .1 .0))
+    λ s a b o. one-left o (room-of-both o (start .pre .0) (start .pre .1 .0))
     (ones .before .is-constant .ensures) (ones .if1 .taken) (c .before .before .move-down .ensures)
 
 is-constant-requires-2 : tie.Need-is-constant-requires-2
@@ -41,7 +41,7 @@ same-length-2 c = search needs
 
 returns-2 : tie.Need-returns-2
 returns-2 c =
-    λ a b o. one-right o (c .before .is-constant2 .ensures) (c .if2 .taken)
+    λ s a b o. one-right o (c .before .is-constant2 .ensures) (c .if2 .taken)
 
 has-zero-requires : tie.Need-has-zero-requires
 has-zero-requires c κs = search needs
@@ -60,7 +60,7 @@ returns-3 c =
     let zeros = c .before .before .before .before in
     let others = zeros .before .before .before in
     let ones = others .before .before .before in
-    λ a b o. zero-left o
+    λ s a b o. zero-left o
     (ones .before .is-constant .ensures) (ones .if1 .left)
     (others .before .is-constant2 .ensures) (others .if2 .left)
     (zeros .before .has-zero .ensures) (zeros .if3 .taken)
@@ -72,7 +72,7 @@ are-sums-requires c κs = search needs
 put-product-of-sums-requires : tie.Need-put-product-of-sums-requires
 put-product-of-sums-requires c κs =
     let start = c .before .before .before .before .before .before .before .before .before .before .before .before .before .before in
-    let roots = operands-some (start .pre .1 .1 .2) in
+    let roots = operands-some (start .pre .1 .1 .3) in
     let args = start .args in
     let said = sums-say (args .plan .now) (args .middle - 1) (args .end - 1) (c .before .before .are-sums .ensures) (c .before .if4 .taken) in
     (omega arith, (omega (arith, roots), (omega (arith, roots), (omega (arith, roots), said .2))))
@@ -89,7 +89,7 @@ returns-4 c =
     let zeros = sums .before .before .before in
     let others = zeros .before .before .before in
     let ones = others .before .before .before in
-    λ a b o. sums-left o
+    λ s a b o. sums-left o
     (ones .before .is-constant .ensures) (ones .if1 .left)
     (others .before .is-constant2 .ensures) (others .if2 .left)
     (zeros .before .has-zero .ensures) (zeros .if3 .left)
@@ -102,8 +102,8 @@ are-products-requires c κs = search needs
 put-product-of-products-requires : tie.Need-put-product-of-products-requires
 put-product-of-products-requires c κs =
     let start = c .before .before .before .before .before .before .before .before .before .before .before .before .before .before .before .before .before in
-    let roots = operands-some (start .pre .1 .1 .2) in
-    let short = products-short (start .pre .1 .1 .2) (c .before .before .are-products .ensures) (c .before .if5 .taken) in
+    let roots = operands-some (start .pre .1 .1 .3) in
+    let short = products-short (start .pre .1 .1 .3) (c .before .before .are-products .ensures) (c .before .if5 .taken) in
     (omega arith, (omega (arith, roots), (omega (arith, roots), (omega (arith, roots), (short .0, short .1)))))
 
 add-result-3 : tie.Need-add-result-3
@@ -119,7 +119,7 @@ returns-5 c =
     let zeros = sums .before .before .before in
     let others = zeros .before .before .before in
     let ones = others .before .before .before in
-    λ a b o. products-left o
+    λ s a b o. products-left o
     (ones .before .is-constant .ensures) (ones .if1 .left)
     (others .before .is-constant2 .ensures) (others .if2 .left)
     (zeros .before .has-zero .ensures) (zeros .if3 .left)
@@ -144,7 +144,7 @@ returns-6 c =
     let others = zeros .before .before .before in
     let ones = others .before .before .before in
     let start = ones .before .before .before .before in
-    λ a b o. row-left o
+    λ s a b o. row-left o
     (ones .before .is-constant .ensures) (ones .if1 .left)
     (others .before .is-constant2 .ensures) (others .if2 .left)
     (zeros .before .has-zero .ensures) (zeros .if3 .left)

@@ -4,7 +4,7 @@ use Rattle.chain.specs.Chain.{words}
 use Rattle.chain.specs.ProductChain.{jointProduct}
 use Rattle.chain_arrays.proofs.Paired.{products-by-word}
 use Rattle.fold.specs.Folded.{trimmedProduct}
-use Rattle.fold_rows.specs.Standing.{placed}
+use Rattle.fold_rows.specs.Standing.{placed, noSpan}
 use borrow.Author.Needs.{needs}
 use Rattle.fold_products.proofs.put_product_of_products.Statement.{statement}
 use Rattle.fold_products.proofs.put_product_of_products.Tie as tie
@@ -30,7 +30,7 @@ returns c =
     let first = c .before .before .before .before .before .before .before .filled in
     let second = c .before .before .before .before .before .filled2 in
     c .before .before .put-product .ensures
-    ∙ ap (λ f. placed (args .plan .now) (args .r) (trimmedProduct f))
+    ∙ ap (λ f. placed (args .plan .now) (args .r) noSpan (trimmedProduct f))
     (c .before .before .before .word-by-word .ensures
     ∙ products-by-word (first .result) (search needs) (second .result) (search needs)
     ∙ ap₂ (λ f g. words 64 (jointProduct f g)) (first .ensures) (second .ensures))

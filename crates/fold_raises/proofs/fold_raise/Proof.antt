@@ -10,10 +10,10 @@ use Rattle.fold_raises.proofs.fold_raise.Statement.{statement}
 use Rattle.fold_raises.proofs.fold_raise.Tie as tie
 
 sub-base-root : tie.Need-sub-base-root
-sub-base-root c = omega (arith, operands-some (c .before .pre .1 .1 .2))
+sub-base-root c = omega (arith, operands-some (c .before .pre .1 .1 .3))
 
 sub-exponent-root : tie.Need-sub-exponent-root
-sub-exponent-root c = omega (arith, operands-some (c .before .pre .1 .1 .2))
+sub-exponent-root c = omega (arith, operands-some (c .before .pre .1 .1 .3))
 
 kind-requires : tie.Need-kind-requires
 kind-requires c κs = search needs
@@ -63,7 +63,7 @@ returns-2 c =
     let start = c .before .before .before .before .before .before .before .before .before .before in
     raise-as-row (start .args .plan .now) (start .args .left) (start .args .middle) (start .args .end)
     (c .before .before .before .before .before .before .before .kind .ensures) (c .before .before .before .before .before .kind2 .ensures)
-    (room-of-both (start .pre .1 .1 .2) (start .pre .0) (start .pre .1 .0))
+    (room-of-both (start .pre .1 .1 .3) (start .pre .0) (start .pre .1 .0))
     (either-way (c .before .before .before .before .if1 .came) (λ x. (x .0 .taken, x .1 .left)) (λ x. x .left)) (c .before .before .append .ensures)
 
 pub fold-raise-spec : {M : Type 1} → statement M

@@ -1,6 +1,6 @@
 -- `put_chain` writes the row of a chain or a constant.
 use mathlib.Core.Path.{ap, _∙_}
-use mathlib.Core.List.{_∷_}
+use mathlib.Core.List.{[], _∷_, _++_}
 use borrow.Author.Needs.{needs}
 use Rattle.fold_rows.specs.Standing.{withRow}
 use Rattle.fold_rows.proofs.put_chain.Statement.{statement}
@@ -21,7 +21,8 @@ returns c =
     let r = c .before .before .before .before .before .before .args .r in
     let last = c .before .before .before .before .before .before .args .last in
     let elements = c .before .before .before .before .before .before .args .elements in
-    (c .before .before .write .ensures) ∙ ap (λ k. withRow plan r (k ∷ last ∷ 0 ∷ elements)) (c .before .before .before .before .kind-of .ensures)
+    c .before .before .write .ensures
+    ∙ ap (λ k. withRow plan r (k ∷ last ∷ 0 ∷ elements ++ 0 ∷ 0 ∷ [])) (c .before .before .before .before .kind-of .ensures)
 
 pub put-chain-spec : {M : Type 1} → statement M
 put-chain-spec = tie.close (tie.spec kind-of-requires write-requires same-length returns)

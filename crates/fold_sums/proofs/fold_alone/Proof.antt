@@ -1,12 +1,12 @@
 -- `fold_alone` leaves the operand of + as it stands, and takes minus of that of -.
 use borrow.Author.Tests.{ne-eqb}
-use Rattle.fold_sums.proofs.SumOperands.{leaves-operand}
+use Rattle.fold_operands.proofs.Leaving.{operand-left}
 use borrow.Author.Needs.{needs}
 use Rattle.fold_sums.proofs.fold_alone.Statement.{statement}
 use Rattle.fold_sums.proofs.fold_alone.Tie as tie
 
 returns : tie.Need-returns
-returns c = rw (c .if1 .taken) leaves-operand
+returns c = rw (c .if1 .taken) (λ s a o. operand-left o)
 
 fold-minus-requires : tie.Need-fold-minus-requires
 fold-minus-requires c κs = search needs

@@ -1,41 +1,42 @@
--- `read` judges, and writes only what is accepted.
+-- `read` reads over the first 257 words.
 use native.Mathlib.Omega.{arith}
-use borrow.Author.Needs.{needs}
+use lib.Seq.{length-take-le}
+use Rattle.formula.specs.Words.{treeLength}
 use Rattle.formula.specs.Refusals.{too-short}
-use Rattle.formula_scan.proofs.Judging.{reading-refused, reading-accepted}
-use Rattle.formula_scan.proofs.Packing.{judged-packs}
+use Rattle.formula_scan.proofs.Deciding.{over-reading}
+use borrow.Author.Needs.{needs}
 use Rattle.formula_read.proofs.read.Statement.{statement}
 use Rattle.formula_read.proofs.read.Tie as tie
 
 returns : tie.Need-returns
 returns c = too-short (omega arith)
 
-judged-requires : tie.Need-judged-requires
-judged-requires c κs = search needs
+sub-read-over : tie.Need-sub-read-over
+sub-read-over c = search needs
 
-returns-2 : tie.Need-returns-2
-returns-2 c =
-    let text = c .before .before .before .before .before .before .args .text .now in
-    let tree = c .before .before .before .before .before .before .args .tree .now in
-    let judged = c .before .before .judged in
-    reading-refused text tree (judged .result) (omega arith) (judged .ensures) (c .if2 .taken)
+part-read-over-start : tie.Need-part-read-over-start
+part-read-over-start c = search needs
 
-write-requires : tie.Need-write-requires
-write-requires c κs =
-    let text = c .before .before .before .before .before .before .before .args .text .now in
-    let judged = c .before .before .before .judged in
-    (omega arith, judged-packs text (judged .result) (judged .ensures) (c .before .if2 .left))
+part-read-over-end : tie.Need-part-read-over-end
+part-read-over-end c = search needs
+
+read-over-requires : tie.Need-read-over-requires
+read-over-requires c κs = omega (arith, length-take-le treeLength ((c .before .before .before .before .args .tree) .now) (omega arith))
 
 same-length : tie.Need-same-length
 same-length c = search needs
 
-returns-3 : tie.Need-returns-3
-returns-3 c =
-    let text = c .before .before .before .before .before .before .before .before .before .before .args .text .now in
-    let tree = c .before .before .before .before .before .before .before .before .before .before .args .tree .now in
-    let judged = c .before .before .before .before .before .before .judged in
-    reading-accepted text tree (judged .result) _ (omega arith) (judged .ensures) (c .before .before .before .before .if2 .left) (c .before .before .write .ensures)
+returns-2 : tie.Need-returns-2
+returns-2 c = over-reading (omega arith) ((c .before .before .read-over .ensures))
 
 pub read-spec : {M : Type 1} → statement M
 read-spec =
-    tie.close (tie.spec returns judged-requires returns-2 write-requires same-length returns-3)
+    tie.close
+    (tie.spec
+    returns
+    sub-read-over
+    part-read-over-start
+    part-read-over-end
+    read-over-requires
+    same-length
+    returns-2)

@@ -11,7 +11,10 @@ use borrow.Author.Needs.{needs}
 use borrow.Fn.Kinds.{In}
 use borrow.Fn.PlainCycle.{Measures, is, falls, and}
 use Rattle.formula_scan.specs.declared.Found.{Found}
-use Rattle.formula_scan.proofs.Ways.{got-odd, got-few, product-place, sum-place, got, atom-x, atom-number, atom-bracket, no-atom, power-lost, power-plain, power-literal, no-exponent, raise-lost, power-raise, factor-lost, factor-got, ProductSoFar, product-onward, product-starts, product-lost, product-joined, product-ends, product-goes-on, SumSoFar, sum-onward, sum-starts, sum-lost, sum-joined, sum-ends, sum-goes-on, bracket-lost, bracket-open, bracket-closed}
+use Rattle.formula_scan.specs.declared.Left.{Left}
+use Rattle.formula.specs.Tree.{span}
+use Rattle.formula_scan.specs.Packing.{leftOf}
+use Rattle.formula_scan.proofs.Ways.{got-odd, got-few, joined-place, Waits, waits-so, got, atom-x, atom-number, atom-bracket, no-atom, power-lost, power-plain, power-literal, no-exponent, raise-lost, power-raise, factor-lost, factor-got, ProductSoFar, product-onward, product-starts, product-lost, product-joined, product-ends, product-goes-on, SumSoFar, sum-onward, sum-starts, sum-lost, sum-joined, sum-ends, sum-goes-on, bracket-lost, bracket-open, bracket-closed}
 use Rattle.formula_scan.specs.Readers.{finding, withNode, put}
 use Rattle.formula_scan.proofs.Packing.{product-fault, sum-fault, stop-packs, same-read, sum-stops, got-fault, got-packs}
 use Rattle.formula_scan.proofs.Steps.{inside}
@@ -53,6 +56,8 @@ use Rattle.formula_nodes.proofs.noted.Reads as noted-reads
 use Rattle.formula_nodes.proofs.faults.number_fault.Reads as number-fault-reads
 use Rattle.formula_nodes.proofs.starting.Reads as starting-reads
 use Rattle.formula_nodes.proofs.stopped.Reads as stopped-reads
+use Rattle.formula_packing.proofs.held.Reads as held-reads
+use Rattle.formula_packing.proofs.left_of.Reads as left-of-reads
 use Rattle.formula_packing.proofs.packed.Reads as packed-reads
 use Rattle.formula_packing.proofs.unpacked.Reads as unpacked-reads
 
@@ -274,9 +279,6 @@ read-factor-same-length t c = search needs
 read-factor-returns : (t : ℕ) → read-factor-lts.Need-returns (read-factor-claims t) (read-factor-at t) read-factor.Post
 read-factor-returns t c = factor-lost (c .before .before .before .before .before .before .before .before .before .args .text .now) (c .before .before .before .before .before .before .before .before .before .args .at) (c .before .before .before .before .before .before .after-minus-signs .result) (c .before .before .before .before .before .before .before .before .before .args .nodes) (c .before .before .before .before .before .before .before .before .before .args .fault) _ _ _ (c .before .before .before .before .before .before .after-minus-signs .ensures) (c .before .before .before .before .read-power .ensures) (not-true _ (c .if1 .taken))
 
-read-factor-sub-negated : (t : ℕ) → read-factor-lts.Need-sub-negated (read-factor-claims t) (read-factor-at t) read-factor.Post
-read-factor-sub-negated t c = search needs
-
 read-factor-negated-requires : (t : ℕ) → read-factor-lts.Need-negated-requires (read-factor-claims t) (read-factor-at t) read-factor.Post
 read-factor-negated-requires t c κs = let power = got (c .before .before .before .before .before .read-power .ensures) (not-false _ (c .before .if1 .left)) in (not-false _ (c .before .if1 .left), omega (arith, power .counted, power .room, power .inside, (c .before .before .before .before .before .before .before .after-minus-signs .ensures .onward), (c .before .before .before .before .before .before .before .before .before .before .pre .1 .1 .0), (c .before .before .before .before .before .before .before .before .before .before .good .0 .1)))
 
@@ -385,20 +387,24 @@ read-power-same-length-6 : (t : ℕ) → read-power-lts.Need-same-length-6 (read
 read-power-same-length-6 t c = (c .before .before .noted .kept .0) ∙ (c .before .before .before .before .before .before .before .before .before .read-bracket .kept .1 .0) ∙ (c .before .before .before .before .before .before .before .before .before .before .before .before .before .before .before .before .before .before .before .before .before .before .before .read-atom .kept .1 .0)
 
 read-power-returns-6 : (t : ℕ) → read-power-lts.Need-returns-6 (read-power-claims t) (read-power-at t) read-power.Post
-read-power-returns-6 t c = power-raise (c .before .before .before .before .before .before .before .before .before .before .before .before .before .before .before .before .before .before .before .before .before .before .before .before .before .before .before .args .text .now) (c .before .before .before .before .before .before .before .before .before .before .before .before .before .before .before .before .before .before .before .before .before .before .before .before .before .before .before .args .at) (c .before .before .before .before .before .before .before .before .before .before .before .before .before .before .before .before .before .before .before .before .before .before .before .before .before .before .before .args .nodes) (c .before .before .before .before .before .before .before .before .before .before .before .before .before .before .before .before .before .before .before .before .before .before .before .before .before .before .before .args .fault) _ (c .before .before .before .before .before .before .before .before .before .before .before .before .before .before .before .before .before .before .before .before .before .before .before .read-atom .result) _ (got (c .before .before .before .before .before .before .before .before .before .before .before .before .before .before .before .before .before .before .before .before .before .before .before .read-atom .ensures) (not-false _ (c .before .before .before .before .before .before .before .before .before .before .before .before .before .before .before .before .before .before .before .if1 .left))) (sym (c .before .before .before .before .before .before .before .before .before .before .before .before .before .before .before .before .before .before .byte-at .ensures) ∙ (c .before .before .before .before .before .before .before .before .before .before .before .before .before .before .before .before .before .if2 .left)) (sym (c .before .before .before .before .before .before .before .before .before .before .before .before .before .before .before .before .byte-at2 .ensures) ∙ (c .before .before .before .before .before .before .before .before .before .before .before .before .before .if4 .left)) _ ((c .before .before .before .before .before .before .before .before .before .before .before .lesser .ensures) ∙ ap (λ g. min (c .before .before .before .before .before .before .before .before .before .before .before .before .before .before .before .before .before .before .before .before .before .before .before .read-atom .result .fault) g) (c .before .before .before .before .before .before .before .before .before .before .before .before .base-fault .ensures)) (c .before .before .before .before .before .before .before .before .before .read-bracket .result) _ (c .before .before .before .before .before .before .before .before .before .read-bracket .ensures) (not-false _ (c .before .before .before .before .before .if5 .left)) _ _ (c .before .before .noted .ensures .0 ∙ ap withNode (c .before .before .before .both .ensures)) (c .before .before .noted .ensures .1 ∙ ap (λ (f : Found). put (c .before .before .before .before .before .before .before .before .before .read-bracket .last .1 .0) (f .nodes) 8 0) (c .before .before .before .both .ensures))
+read-power-returns-6 t c = power-raise (c .before .before .before .before .before .before .before .before .before .before .before .before .before .before .before .before .before .before .before .before .before .before .before .before .before .before .before .args .text .now) (c .before .before .before .before .before .before .before .before .before .before .before .before .before .before .before .before .before .before .before .before .before .before .before .before .before .before .before .args .at) (c .before .before .before .before .before .before .before .before .before .before .before .before .before .before .before .before .before .before .before .before .before .before .before .before .before .before .before .args .nodes) (c .before .before .before .before .before .before .before .before .before .before .before .before .before .before .before .before .before .before .before .before .before .before .before .before .before .before .before .args .fault) _ (c .before .before .before .before .before .before .before .before .before .before .before .before .before .before .before .before .before .before .before .before .before .before .before .read-atom .result) _ (got (c .before .before .before .before .before .before .before .before .before .before .before .before .before .before .before .before .before .before .before .before .before .before .before .read-atom .ensures) (not-false _ (c .before .before .before .before .before .before .before .before .before .before .before .before .before .before .before .before .before .before .before .if1 .left))) (sym (c .before .before .before .before .before .before .before .before .before .before .before .before .before .before .before .before .before .before .byte-at .ensures) ∙ (c .before .before .before .before .before .before .before .before .before .before .before .before .before .before .before .before .before .if2 .left)) (sym (c .before .before .before .before .before .before .before .before .before .before .before .before .before .before .before .before .byte-at2 .ensures) ∙ (c .before .before .before .before .before .before .before .before .before .before .before .before .before .if4 .left)) _ ((c .before .before .before .before .before .before .before .before .before .before .before .lesser .ensures) ∙ ap (λ g. min (c .before .before .before .before .before .before .before .before .before .before .before .before .before .before .before .before .before .before .before .before .before .before .before .read-atom .result .fault) g) (c .before .before .before .before .before .before .before .before .before .before .before .before .base-fault .ensures)) (c .before .before .before .before .before .before .before .before .before .read-bracket .result) _ (c .before .before .before .before .before .before .before .before .before .read-bracket .ensures) (not-false _ (c .before .before .before .before .before .if5 .left)) _ _ (c .before .before .noted .ensures .0 ∙ ap withNode (c .before .before .before .both .ensures)) (c .before .before .noted .ensures .1 ∙ ap (λ (f : Found). put (c .before .before .before .before .before .before .before .before .before .read-bracket .last .1 .0) (f .nodes) 8 0 (span (c .before .before .before .before .before .before .before .before .before .before .before .before .before .before .before .before .before .before .before .before .before .before .before .before .before .before .before .args .at) (f .at))) (c .before .before .before .both .ensures))
 
 abbrev read-product-Inv-loop : read-product-lts.InvT-loop
-read-product-Inv-loop text tree₀ at nodes fault left₀ joined₀ tree left joined = (ProductSoFar 64 text at nodes fault tree₀ left joined tree) × (length tree ≡ length tree₀)
+read-product-Inv-loop text tree₀ at nodes fault next₀ waits₀ tree next waits = ProductSoFar 64 text at nodes fault tree₀ next (leftOf waits .sign) tree × Waits (leftOf waits) at next × (length tree ≡ length tree₀)
 
 abbrev read-product-μ-loop : read-product-lts.MeasureT-loop
-read-product-μ-loop text tree₀ at nodes fault left₀ joined₀ tree left joined = length text - left .at
+read-product-μ-loop text tree₀ at nodes fault next₀ waits₀ tree next waits = length text - next .at
 
 abbrev read-product-claims : ℕ → read-product-lts.Claims
 read-product-claims t = (
   starting-reads.Asked,
   starting-reads.Learnt,
+  held-reads.Asked,
+  held-reads.Learnt,
   read-factor-below t,
   read-factor.Post,
+  left-of-reads.Asked,
+  left-of-reads.Learnt,
   joined-product-reads.Asked,
   joined-product-reads.Learnt,
   byte-at-reads.Asked,
@@ -410,20 +416,26 @@ read-product-claims t = (
 read-product-starting-requires : (t : ℕ) → read-product-lts.Need-starting-requires (read-product-claims t) (read-product-at t) read-product.Post read-product-Inv-loop read-product-μ-loop
 read-product-starting-requires t c κs = search needs
 
+read-product-held-requires : (t : ℕ) → read-product-lts.Need-held-requires (read-product-claims t) (read-product-at t) read-product.Post read-product-Inv-loop read-product-μ-loop
+read-product-held-requires t c κs = (omega (arith, (c .before .before .before .pre) .1 .0, (c .before .before .before .pre) .1 .1 .1 .0), omega (arith, ap (λ (x : Found). x .odd) ((c .starting) .ensures)))
+
 read-product-loop-holds : (t : ℕ) → read-product-lts.Need-loop-holds (read-product-claims t) (read-product-at t) read-product.Post read-product-Inv-loop read-product-μ-loop
-read-product-loop-holds t c = (product-starts _ (c .starting .ensures), refl)
+read-product-loop-holds t c = (product-starts _ _ (ap (λ (x : Left). x .sign) ((c .held) .ensures)) ((c .before .starting) .ensures), waits-so _ _ _ _ ((c .before .starting) .result) refl ((c .held) .ensures), refl)
 
 read-product-read-factor-requires : (t : ℕ) → read-product-lts.Need-read-factor-requires (read-product-claims t) (read-product-at t) read-product.Post read-product-Inv-loop read-product-μ-loop
-read-product-read-factor-requires t c κs = let so = product-onward (c .before .before .before .before .before .pre .1 .0) (c .before .loop .inv .0) in (omega (arith, (c .before .before .before .before .before .pre .0), so .after), (so .inside, (so .few (c .before .before .before .before .before .pre .1 .1 .0), ((c .before .before .before .before .before .pre .1 .1 .1 .0), omega (arith, product-fault (c .before .loop .inv .0), (c .before .before .before .before .before .pre .1 .1 .1 .1))))))
+read-product-read-factor-requires t c κs = let so = product-onward ((c .before .before .before .before .before .before .pre) .1 .0) ((c .before .loop) .inv .0) in (omega (arith, ((c .before .before .before .before .before .before .pre) .0), so .after), (so .inside, (so .few ((c .before .before .before .before .before .before .pre) .1 .1 .0), (((c .before .before .before .before .before .before .pre) .1 .1 .1 .0), omega (arith, product-fault ((c .before .loop) .inv .0), ((c .before .before .before .before .before .before .pre) .1 .1 .1 .1))))))
 
 read-product-same-length : (t : ℕ) → read-product-lts.Need-same-length (read-product-claims t) (read-product-at t) read-product.Post read-product-Inv-loop read-product-μ-loop
 read-product-same-length t c = search needs
 
 read-product-returns : (t : ℕ) → read-product-lts.Need-returns (read-product-claims t) (read-product-at t) read-product.Post read-product-Inv-loop read-product-μ-loop
-read-product-returns t c = product-lost (c .before .before .before .before .before .before .loop .inv .0) (c .before .before .before .before .read-factor .ensures) (not-true _ (c .if1 .taken))
+read-product-returns t c = product-lost ((c .before .before .before .before .before .before .loop) .inv .0) ((c .before .before .before .before .read-factor) .ensures) (not-true _ ((c .if1) .taken))
+
+read-product-left-of-requires : (t : ℕ) → read-product-lts.Need-left-of-requires (read-product-claims t) (read-product-at t) read-product.Post read-product-Inv-loop read-product-μ-loop
+read-product-left-of-requires t c κs = search needs
 
 read-product-joined-product-requires : (t : ℕ) → read-product-lts.Need-joined-product-requires (read-product-claims t) (read-product-at t) read-product.Post read-product-Inv-loop read-product-μ-loop
-read-product-joined-product-requires t c κs = let so = product-onward (c .before .before .before .before .before .before .before .before .before .before .before .pre .1 .0) (c .before .before .before .before .before .before .before .loop .inv .0) in let factor = got (c .before .before .before .before .before .read-factor .ensures) (not-false _ (c .before .if1 .left)) in (omega (arith, got-few factor (so .few (c .before .before .before .before .before .before .before .before .before .before .before .pre .1 .1 .0)), factor .inside, (c .before .before .before .before .before .before .before .before .before .before .before .good .0 .1)), (so .odd-small, got-odd factor))
+read-product-joined-product-requires t c κs = let so = product-onward ((c .before .before .before .before .before .before .before .before .before .before .before .before .before .pre) .1 .0) ((c .before .before .before .before .before .before .before .before .loop) .inv .0) in let factor = got ((c .before .before .before .before .before .before .read-factor) .ensures) (not-false _ ((c .before .before .if1) .left)) in (omega (arith, got-few factor (so .few ((c .before .before .before .before .before .before .before .before .before .before .before .before .before .pre) .1 .1 .0)), factor .inside, ((c .before .before .before .before .before .before .before .before .before .before .before .before .before .good) .0 .1)), (omega (arith, so .odd-small, ap (λ (x : Left). x .odd) ((c .before .left-of) .ensures ∙ (c .before .before .before .before .before .before .before .before .loop) .inv .1)), got-odd factor))
 
 read-product-byte-at-requires : (t : ℕ) → read-product-lts.Need-byte-at-requires (read-product-claims t) (read-product-at t) read-product.Post read-product-Inv-loop read-product-μ-loop
 read-product-byte-at-requires t c κs = search needs
@@ -432,33 +444,40 @@ read-product-same-length-2 : (t : ℕ) → read-product-lts.Need-same-length-2 (
 read-product-same-length-2 t c = search needs
 
 read-product-returns-2 : (t : ℕ) → read-product-lts.Need-returns-2 (read-product-claims t) (read-product-at t) read-product.Post read-product-Inv-loop read-product-μ-loop
-read-product-returns-2 t c = product-ends (product-joined (c .before .before .before .before .before .before .before .before .before .before .before .before .loop .inv .0) (c .before .before .before .before .before .before .before .before .before .before .read-factor .ensures) (not-false _ (c .before .before .before .before .before .before .if1 .left)) (c .before .before .before .before .joined-product .result) _ (c .before .before .before .before .joined-product .ensures .0) (c .before .before .before .before .joined-product .ensures .1)) (λ e. (c .if2 .taken) ((c .before .byte-at .ensures) ∙ e))
+read-product-returns-2 t c = product-ends (product-joined ((c .before .before .before .before .before .before .before .before .before .before .before .before .before .loop) .inv .0) ((c .before .before .before .before .before .before .before .before .before .before .before .read-factor) .ensures) ((c .before .before .before .before .before .before .left-of) .result) ((c .before .before .before .before .before .before .left-of) .ensures ∙ (c .before .before .before .before .before .before .before .before .before .before .before .before .before .loop) .inv .1) (not-false _ ((c .before .before .before .before .before .before .before .if1) .left)) ((c .before .before .before .before .joined-product) .result) _ ((c .before .before .before .before .joined-product) .ensures .0) ((c .before .before .before .before .joined-product) .ensures .1)) (λ e. ((c .if2) .taken) (((c .before .byte-at) .ensures) ∙ e))
 
 read-product-beyond-requires : (t : ℕ) → read-product-lts.Need-beyond-requires (read-product-claims t) (read-product-at t) read-product.Post read-product-Inv-loop read-product-μ-loop
-read-product-beyond-requires t c κs = let whole = product-joined (c .before .before .before .before .before .before .before .before .before .before .before .before .loop .inv .0) (c .before .before .before .before .before .before .before .before .before .before .read-factor .ensures) (not-false _ (c .before .before .before .before .before .before .if1 .left)) (c .before .before .before .before .joined-product .result) _ (c .before .before .before .before .joined-product .ensures .0) (c .before .before .before .before .joined-product .ensures .1) in omega (arith, whole .inside, (c .before .before .before .before .before .before .before .before .before .before .before .before .before .before .before .before .good .0 .1))
+read-product-beyond-requires t c κs = let whole = product-joined ((c .before .before .before .before .before .before .before .before .before .before .before .before .before .loop) .inv .0) ((c .before .before .before .before .before .before .before .before .before .before .before .read-factor) .ensures) ((c .before .before .before .before .before .before .left-of) .result) ((c .before .before .before .before .before .before .left-of) .ensures ∙ (c .before .before .before .before .before .before .before .before .before .before .before .before .before .loop) .inv .1) (not-false _ ((c .before .before .before .before .before .before .before .if1) .left)) ((c .before .before .before .before .joined-product) .result) _ ((c .before .before .before .before .joined-product) .ensures .0) ((c .before .before .before .before .joined-product) .ensures .1) in omega (arith, whole .inside, ((c .before .before .before .before .before .before .before .before .before .before .before .before .before .before .before .before .before .before .good) .0 .1))
+
+read-product-held-requires-2 : (t : ℕ) → read-product-lts.Need-held-requires-2 (read-product-claims t) (read-product-at t) read-product.Post read-product-Inv-loop read-product-μ-loop
+read-product-held-requires-2 t c κs = let whole = product-joined ((c .before .before .before .before .before .before .before .before .before .before .before .before .before .before .loop) .inv .0) ((c .before .before .before .before .before .before .before .before .before .before .before .before .read-factor) .ensures) ((c .before .before .before .before .before .before .before .left-of) .result) ((c .before .before .before .before .before .before .before .left-of) .ensures ∙ (c .before .before .before .before .before .before .before .before .before .before .before .before .before .before .loop) .inv .1) (not-false _ ((c .before .before .before .before .before .before .before .before .if1) .left)) ((c .before .before .before .before .before .joined-product) .result) _ ((c .before .before .before .before .before .joined-product) .ensures .0) ((c .before .before .before .before .before .joined-product) .ensures .1) in (omega (arith, ap (λ (x : Left). x .first) ((c .before .before .before .before .before .before .before .left-of) .ensures ∙ (c .before .before .before .before .before .before .before .before .before .before .before .before .before .before .loop) .inv .1), (c .before .before .before .before .before .before .before .before .before .before .before .before .before .before .before .before .before .before .before .pre) .1 .0, (c .before .before .before .before .before .before .before .before .before .before .before .before .before .before .before .before .before .before .before .pre) .1 .1 .1 .0), omega (arith, ap (λ (x : Found). x .odd) ((c .beyond) .ensures), got-odd whole))
 
 read-product-loop-less : (t : ℕ) → read-product-lts.Need-loop-less (read-product-claims t) (read-product-at t) read-product.Post read-product-Inv-loop read-product-μ-loop
-read-product-loop-less t c = let factor = got (c .before .before .before .before .before .before .before .before .before .before .before .read-factor .ensures) (not-false _ (c .before .before .before .before .before .before .before .if1 .left)) in let end = ap (λ (x : Found). x .at) (c .beyond .ensures) in omega (arith, factor .onward, factor .inside, product-place (c .before .before .before .before .before .before .before .before .before .before .before .before .before .loop .joined) (c .before .before .before .before .before .before .before .before .before .before .before .before .before .loop .left) (c .before .before .before .before .before .before .before .before .before .before .before .read-factor .result) (c .before .before .before .before .before .joined-product .result) (c .before .before .before .before .before .joined-product .ensures .0))
+read-product-loop-less t c = let factor = got ((c .before .before .before .before .before .before .before .before .before .before .before .before .before .read-factor) .ensures) (not-false _ ((c .before .before .before .before .before .before .before .before .before .if1) .left)) in let end = ap (λ (x : Found). x .at) ((c .before .beyond) .ensures) in omega (arith, factor .onward, factor .inside, joined-place ((c .before .before .before .before .before .before .before .before .left-of) .result .sign) ((c .before .before .before .before .before .before .before .before .before .before .before .before .before .read-factor) .result) _ ((c .before .before .before .before .before .before .joined-product) .result) refl ((c .before .before .before .before .before .before .joined-product) .ensures .0))
 
 read-product-loop-again : (t : ℕ) → read-product-lts.Need-loop-again (read-product-claims t) (read-product-at t) read-product.Post read-product-Inv-loop read-product-μ-loop
-read-product-loop-again t c = (product-goes-on (product-joined (c .before .before .before .before .before .before .before .before .before .before .before .before .before .loop .inv .0) (c .before .before .before .before .before .before .before .before .before .before .before .read-factor .ensures) (not-false _ (c .before .before .before .before .before .before .before .if1 .left)) (c .before .before .before .before .before .joined-product .result) _ (c .before .before .before .before .before .joined-product .ensures .0) (c .before .before .before .before .before .joined-product .ensures .1)) (sym (c .before .before .byte-at .ensures) ∙ (c .before .if2 .left)) _ (c .beyond .ensures), (c .before .before .before .before .before .joined-product .kept .0) ∙ (c .before .before .before .before .before .before .before .before .before .before .before .read-factor .kept .1 .0) ∙ (c .before .before .before .before .before .before .before .before .before .before .before .before .before .loop .inv .1))
+read-product-loop-again t c = (product-goes-on (product-joined ((c .before .before .before .before .before .before .before .before .before .before .before .before .before .before .before .loop) .inv .0) ((c .before .before .before .before .before .before .before .before .before .before .before .before .before .read-factor) .ensures) ((c .before .before .before .before .before .before .before .before .left-of) .result) ((c .before .before .before .before .before .before .before .before .left-of) .ensures ∙ (c .before .before .before .before .before .before .before .before .before .before .before .before .before .before .before .loop) .inv .1) (not-false _ ((c .before .before .before .before .before .before .before .before .before .if1) .left)) ((c .before .before .before .before .before .before .joined-product) .result) _ ((c .before .before .before .before .before .before .joined-product) .ensures .0) ((c .before .before .before .before .before .before .joined-product) .ensures .1)) (sym ((c .before .before .before .byte-at) .ensures) ∙ ((c .before .before .if2) .left)) _ _ (ap (λ (x : Left). x .sign) ((c .held2) .ensures)) ((c .before .beyond) .ensures), waits-so _ _ _ _ ((c .before .beyond) .result) (ap (λ (x : Left). x .first) ((c .before .before .before .before .before .before .before .before .left-of) .ensures ∙ (c .before .before .before .before .before .before .before .before .before .before .before .before .before .before .before .loop) .inv .1)) ((c .held2) .ensures), ((c .before .before .before .before .before .before .joined-product) .kept .0) ∙ ((c .before .before .before .before .before .before .before .before .before .before .before .before .before .read-factor) .kept .1 .0) ∙ ((c .before .before .before .before .before .before .before .before .before .before .before .before .before .before .before .loop) .inv .2))
 
 abbrev read-sum-Inv-loop : read-sum-lts.InvT-loop
-read-sum-Inv-loop text tree₀ at nodes fault left₀ sign₀ tree left sign = (SumSoFar 64 text at nodes fault tree₀ left sign tree) × (length tree ≡ length tree₀)
+read-sum-Inv-loop text tree₀ at nodes fault next₀ waits₀ tree next waits = SumSoFar 64 text at nodes fault tree₀ next (leftOf waits .sign) tree × Waits (leftOf waits) at next × (length tree ≡ length tree₀)
 
 abbrev read-sum-μ-loop : read-sum-lts.MeasureT-loop
-read-sum-μ-loop text tree₀ at nodes fault left₀ sign₀ tree left sign = length text - left .at
+read-sum-μ-loop text tree₀ at nodes fault next₀ waits₀ tree next waits = length text - next .at
 
 abbrev read-sum-claims : ℕ → read-sum-lts.Claims
 read-sum-claims t = (
   starting-reads.Asked,
   starting-reads.Learnt,
+  held-reads.Asked,
+  held-reads.Learnt,
   read-product-below t,
   read-product.Post,
   stopped-reads.Asked,
   stopped-reads.Learnt,
   packed-reads.Asked,
   packed-reads.Learnt,
+  left-of-reads.Asked,
+  left-of-reads.Learnt,
   joined-sum-reads.Asked,
   joined-sum-reads.Learnt,
   byte-at-reads.Asked,
@@ -472,26 +491,32 @@ read-sum-claims t = (
 read-sum-starting-requires : (t : ℕ) → read-sum-lts.Need-starting-requires (read-sum-claims t) (read-sum-at t) read-sum.Post read-sum-Inv-loop read-sum-μ-loop
 read-sum-starting-requires t c κs = search needs
 
+read-sum-held-requires : (t : ℕ) → read-sum-lts.Need-held-requires (read-sum-claims t) (read-sum-at t) read-sum.Post read-sum-Inv-loop read-sum-μ-loop
+read-sum-held-requires t c κs = (omega (arith, (c .before .before .before .pre) .1 .0, (c .before .before .before .pre) .1 .1 .1 .0), omega (arith, ap (λ (x : Found). x .odd) ((c .starting) .ensures)))
+
 read-sum-loop-holds : (t : ℕ) → read-sum-lts.Need-loop-holds (read-sum-claims t) (read-sum-at t) read-sum.Post read-sum-Inv-loop read-sum-μ-loop
-read-sum-loop-holds t c = (sum-starts _ (c .starting .ensures), refl)
+read-sum-loop-holds t c = (sum-starts _ _ (ap (λ (x : Left). x .sign) ((c .held) .ensures)) ((c .before .starting) .ensures), waits-so _ _ _ _ ((c .before .starting) .result) refl ((c .held) .ensures), refl)
 
 read-sum-read-product-requires : (t : ℕ) → read-sum-lts.Need-read-product-requires (read-sum-claims t) (read-sum-at t) read-sum.Post read-sum-Inv-loop read-sum-μ-loop
-read-sum-read-product-requires t c κs = let so = sum-onward (c .before .before .before .before .before .pre .1 .0) (c .before .loop .inv .0) in (omega (arith, (c .before .before .before .before .before .pre .0), so .after), (so .inside, (so .few (c .before .before .before .before .before .pre .1 .1 .0), ((c .before .before .before .before .before .pre .1 .1 .1 .0), omega (arith, sum-fault (c .before .loop .inv .0), (c .before .before .before .before .before .pre .1 .1 .1 .1))))))
+read-sum-read-product-requires t c κs = let so = sum-onward ((c .before .before .before .before .before .before .pre) .1 .0) ((c .before .loop) .inv .0) in (omega (arith, ((c .before .before .before .before .before .before .pre) .0), so .after), (so .inside, (so .few ((c .before .before .before .before .before .before .pre) .1 .1 .0), (((c .before .before .before .before .before .before .pre) .1 .1 .1 .0), omega (arith, sum-fault ((c .before .loop) .inv .0), ((c .before .before .before .before .before .before .pre) .1 .1 .1 .1))))))
 
 read-sum-stopped-requires : (t : ℕ) → read-sum-lts.Need-stopped-requires (read-sum-claims t) (read-sum-at t) read-sum.Post read-sum-Inv-loop read-sum-μ-loop
 read-sum-stopped-requires t c κs = search needs
 
 read-sum-packed-requires : (t : ℕ) → read-sum-lts.Need-packed-requires (read-sum-claims t) (read-sum-at t) read-sum.Post read-sum-Inv-loop read-sum-μ-loop
-read-sum-packed-requires t c κs = rw (c .stopped .ensures) (stop-packs (c .before .before .before .before .before .read-product .ensures) (not-true _ (c .before .if1 .taken)) (sum-onward (c .before .before .before .before .before .before .before .before .before .before .before .pre .1 .0) (c .before .before .before .before .before .before .before .loop .inv .0) .inside) (c .before .before .before .before .before .before .before .before .before .before .before .pre .1 .1 .1 .0))
+read-sum-packed-requires t c κs = rw ((c .stopped) .ensures) (stop-packs ((c .before .before .before .before .before .read-product) .ensures) (not-true _ ((c .before .if1) .taken)) (sum-onward ((c .before .before .before .before .before .before .before .before .before .before .before .before .pre) .1 .0) ((c .before .before .before .before .before .before .before .loop) .inv .0) .inside) ((c .before .before .before .before .before .before .before .before .before .before .before .before .pre) .1 .1 .1 .0))
 
 read-sum-same-length : (t : ℕ) → read-sum-lts.Need-same-length (read-sum-claims t) (read-sum-at t) read-sum.Post read-sum-Inv-loop read-sum-μ-loop
 read-sum-same-length t c = search needs
 
 read-sum-returns : (t : ℕ) → read-sum-lts.Need-returns (read-sum-claims t) (read-sum-at t) read-sum.Post read-sum-Inv-loop read-sum-μ-loop
-read-sum-returns t c = same-read ((c .packed .ensures) ∙ (c .before .stopped .ensures)) (sum-stops (sum-lost (c .before .before .before .before .before .before .before .before .loop .inv .0) (c .before .before .before .before .before .before .read-product .ensures) (not-true _ (c .before .before .if1 .taken))) (not-true _ (c .before .before .if1 .taken)))
+read-sum-returns t c = same-read (((c .packed) .ensures) ∙ ((c .before .stopped) .ensures)) (sum-stops (sum-lost ((c .before .before .before .before .before .before .before .before .loop) .inv .0) ((c .before .before .before .before .before .before .read-product) .ensures) (not-true _ ((c .before .before .if1) .taken))) (not-true _ ((c .before .before .if1) .taken)))
+
+read-sum-left-of-requires : (t : ℕ) → read-sum-lts.Need-left-of-requires (read-sum-claims t) (read-sum-at t) read-sum.Post read-sum-Inv-loop read-sum-μ-loop
+read-sum-left-of-requires t c κs = search needs
 
 read-sum-joined-sum-requires : (t : ℕ) → read-sum-lts.Need-joined-sum-requires (read-sum-claims t) (read-sum-at t) read-sum.Post read-sum-Inv-loop read-sum-μ-loop
-read-sum-joined-sum-requires t c κs = let so = sum-onward (c .before .before .before .before .before .before .before .before .before .before .before .pre .1 .0) (c .before .before .before .before .before .before .before .loop .inv .0) in let factor = got (c .before .before .before .before .before .read-product .ensures) (not-false _ (c .before .if1 .left)) in (omega (arith, got-few factor (so .few (c .before .before .before .before .before .before .before .before .before .before .before .pre .1 .1 .0)), factor .inside, (c .before .before .before .before .before .before .before .before .before .before .before .good .0 .1)), (so .odd-small, got-odd factor))
+read-sum-joined-sum-requires t c κs = let so = sum-onward ((c .before .before .before .before .before .before .before .before .before .before .before .before .before .pre) .1 .0) ((c .before .before .before .before .before .before .before .before .loop) .inv .0) in let factor = got ((c .before .before .before .before .before .before .read-product) .ensures) (not-false _ ((c .before .before .if1) .left)) in (omega (arith, got-few factor (so .few ((c .before .before .before .before .before .before .before .before .before .before .before .before .before .pre) .1 .1 .0)), factor .inside, ((c .before .before .before .before .before .before .before .before .before .before .before .before .before .good) .0 .1)), (omega (arith, so .odd-small, ap (λ (x : Left). x .odd) ((c .before .left-of) .ensures ∙ (c .before .before .before .before .before .before .before .before .loop) .inv .1)), got-odd factor))
 
 read-sum-byte-at-requires : (t : ℕ) → read-sum-lts.Need-byte-at-requires (read-sum-claims t) (read-sum-at t) read-sum.Post read-sum-Inv-loop read-sum-μ-loop
 read-sum-byte-at-requires t c κs = search needs
@@ -500,22 +525,25 @@ read-sum-is-sign-requires : (t : ℕ) → read-sum-lts.Need-is-sign-requires (re
 read-sum-is-sign-requires t c κs = search needs
 
 read-sum-packed-requires-2 : (t : ℕ) → read-sum-lts.Need-packed-requires-2 (read-sum-claims t) (read-sum-at t) read-sum.Post read-sum-Inv-loop read-sum-μ-loop
-read-sum-packed-requires-2 t c κs = got-packs (sum-joined (c .before .before .before .before .before .before .before .before .before .before .before .before .before .loop .inv .0) (c .before .before .before .before .before .before .before .before .before .before .before .read-product .ensures) (not-false _ (c .before .before .before .before .before .before .before .if1 .left)) (c .before .before .before .before .before .joined-sum .result) _ (c .before .before .before .before .before .joined-sum .ensures .0) (c .before .before .before .before .before .joined-sum .ensures .1)) (c .before .before .before .before .before .before .before .before .before .before .before .before .before .before .before .before .before .pre .1 .1 .0) (c .before .before .before .before .before .before .before .before .before .before .before .before .before .before .before .before .before .pre .1 .1 .1)
+read-sum-packed-requires-2 t c κs = got-packs (sum-joined ((c .before .before .before .before .before .before .before .before .before .before .before .before .before .before .loop) .inv .0) ((c .before .before .before .before .before .before .before .before .before .before .before .before .read-product) .ensures) ((c .before .before .before .before .before .before .before .left-of) .result) ((c .before .before .before .before .before .before .before .left-of) .ensures ∙ (c .before .before .before .before .before .before .before .before .before .before .before .before .before .before .loop) .inv .1) (not-false _ ((c .before .before .before .before .before .before .before .before .if1) .left)) ((c .before .before .before .before .before .joined-sum) .result) _ ((c .before .before .before .before .before .joined-sum) .ensures .0) ((c .before .before .before .before .before .joined-sum) .ensures .1)) ((c .before .before .before .before .before .before .before .before .before .before .before .before .before .before .before .before .before .before .before .pre) .1 .1 .0) ((c .before .before .before .before .before .before .before .before .before .before .before .before .before .before .before .before .before .before .before .pre) .1 .1 .1)
 
 read-sum-same-length-2 : (t : ℕ) → read-sum-lts.Need-same-length-2 (read-sum-claims t) (read-sum-at t) read-sum.Post read-sum-Inv-loop read-sum-μ-loop
 read-sum-same-length-2 t c = search needs
 
 read-sum-returns-2 : (t : ℕ) → read-sum-lts.Need-returns-2 (read-sum-claims t) (read-sum-at t) read-sum.Post read-sum-Inv-loop read-sum-μ-loop
-read-sum-returns-2 t c = same-read (c .packed2 .ensures) (sum-ends (sum-joined (c .before .before .before .before .before .before .before .before .before .before .before .before .before .before .loop .inv .0) (c .before .before .before .before .before .before .before .before .before .before .before .before .read-product .ensures) (not-false _ (c .before .before .before .before .before .before .before .before .if1 .left)) (c .before .before .before .before .before .before .joined-sum .result) _ (c .before .before .before .before .before .before .joined-sum .ensures .0) (c .before .before .before .before .before .before .joined-sum .ensures .1)) (sym (ap (λ b. eqb b 43 || eqb b 45) (c .before .before .before .byte-at .ensures)) ∙ sym (c .before .before .is-sign .ensures) ∙ not-true _ (c .before .if2 .taken)))
+read-sum-returns-2 t c = same-read ((c .packed2) .ensures) (sum-ends (sum-joined ((c .before .before .before .before .before .before .before .before .before .before .before .before .before .before .before .loop) .inv .0) ((c .before .before .before .before .before .before .before .before .before .before .before .before .before .read-product) .ensures) ((c .before .before .before .before .before .before .before .before .left-of) .result) ((c .before .before .before .before .before .before .before .before .left-of) .ensures ∙ (c .before .before .before .before .before .before .before .before .before .before .before .before .before .before .before .loop) .inv .1) (not-false _ ((c .before .before .before .before .before .before .before .before .before .if1) .left)) ((c .before .before .before .before .before .before .joined-sum) .result) _ ((c .before .before .before .before .before .before .joined-sum) .ensures .0) ((c .before .before .before .before .before .before .joined-sum) .ensures .1)) (sym (ap (λ b. eqb b 43 || eqb b 45) ((c .before .before .before .byte-at) .ensures)) ∙ sym ((c .before .before .is-sign) .ensures) ∙ not-true _ ((c .before .if2) .taken)))
 
 read-sum-beyond-requires : (t : ℕ) → read-sum-lts.Need-beyond-requires (read-sum-claims t) (read-sum-at t) read-sum.Post read-sum-Inv-loop read-sum-μ-loop
-read-sum-beyond-requires t c κs = let whole = sum-joined (c .before .before .before .before .before .before .before .before .before .before .before .before .before .loop .inv .0) (c .before .before .before .before .before .before .before .before .before .before .before .read-product .ensures) (not-false _ (c .before .before .before .before .before .before .before .if1 .left)) (c .before .before .before .before .before .joined-sum .result) _ (c .before .before .before .before .before .joined-sum .ensures .0) (c .before .before .before .before .before .joined-sum .ensures .1) in omega (arith, whole .inside, (c .before .before .before .before .before .before .before .before .before .before .before .before .before .before .before .before .before .good .0 .1))
+read-sum-beyond-requires t c κs = let whole = sum-joined ((c .before .before .before .before .before .before .before .before .before .before .before .before .before .before .loop) .inv .0) ((c .before .before .before .before .before .before .before .before .before .before .before .before .read-product) .ensures) ((c .before .before .before .before .before .before .before .left-of) .result) ((c .before .before .before .before .before .before .before .left-of) .ensures ∙ (c .before .before .before .before .before .before .before .before .before .before .before .before .before .before .loop) .inv .1) (not-false _ ((c .before .before .before .before .before .before .before .before .if1) .left)) ((c .before .before .before .before .before .joined-sum) .result) _ ((c .before .before .before .before .before .joined-sum) .ensures .0) ((c .before .before .before .before .before .joined-sum) .ensures .1) in omega (arith, whole .inside, ((c .before .before .before .before .before .before .before .before .before .before .before .before .before .before .before .before .before .before .before .good) .0 .1))
+
+read-sum-held-requires-2 : (t : ℕ) → read-sum-lts.Need-held-requires-2 (read-sum-claims t) (read-sum-at t) read-sum.Post read-sum-Inv-loop read-sum-μ-loop
+read-sum-held-requires-2 t c κs = let whole = sum-joined ((c .before .before .before .before .before .before .before .before .before .before .before .before .before .before .before .loop) .inv .0) ((c .before .before .before .before .before .before .before .before .before .before .before .before .before .read-product) .ensures) ((c .before .before .before .before .before .before .before .before .left-of) .result) ((c .before .before .before .before .before .before .before .before .left-of) .ensures ∙ (c .before .before .before .before .before .before .before .before .before .before .before .before .before .before .before .loop) .inv .1) (not-false _ ((c .before .before .before .before .before .before .before .before .before .if1) .left)) ((c .before .before .before .before .before .before .joined-sum) .result) _ ((c .before .before .before .before .before .before .joined-sum) .ensures .0) ((c .before .before .before .before .before .before .joined-sum) .ensures .1) in (omega (arith, ap (λ (x : Left). x .first) ((c .before .before .before .before .before .before .before .before .left-of) .ensures ∙ (c .before .before .before .before .before .before .before .before .before .before .before .before .before .before .before .loop) .inv .1), (c .before .before .before .before .before .before .before .before .before .before .before .before .before .before .before .before .before .before .before .before .pre) .1 .0, (c .before .before .before .before .before .before .before .before .before .before .before .before .before .before .before .before .before .before .before .before .pre) .1 .1 .1 .0), omega (arith, ap (λ (x : Found). x .odd) ((c .beyond) .ensures), got-odd whole))
 
 read-sum-loop-less : (t : ℕ) → read-sum-lts.Need-loop-less (read-sum-claims t) (read-sum-at t) read-sum.Post read-sum-Inv-loop read-sum-μ-loop
-read-sum-loop-less t c = let factor = got (c .before .before .before .before .before .before .before .before .before .before .before .before .read-product .ensures) (not-false _ (c .before .before .before .before .before .before .before .before .if1 .left)) in let end = ap (λ (x : Found). x .at) (c .beyond .ensures) in omega (arith, factor .onward, factor .inside, sum-place (c .before .before .before .before .before .before .before .before .before .before .before .before .before .before .loop .sign) (c .before .before .before .before .before .before .before .before .before .before .before .before .before .before .loop .left) (c .before .before .before .before .before .before .before .before .before .before .before .before .read-product .result) (c .before .before .before .before .before .before .joined-sum .result) (c .before .before .before .before .before .before .joined-sum .ensures .0))
+read-sum-loop-less t c = let factor = got ((c .before .before .before .before .before .before .before .before .before .before .before .before .before .before .read-product) .ensures) (not-false _ ((c .before .before .before .before .before .before .before .before .before .before .if1) .left)) in let end = ap (λ (x : Found). x .at) ((c .before .beyond) .ensures) in omega (arith, factor .onward, factor .inside, joined-place ((c .before .before .before .before .before .before .before .before .before .left-of) .result .sign) ((c .before .before .before .before .before .before .before .before .before .before .before .before .before .before .read-product) .result) _ ((c .before .before .before .before .before .before .before .joined-sum) .result) refl ((c .before .before .before .before .before .before .before .joined-sum) .ensures .0))
 
 read-sum-loop-again : (t : ℕ) → read-sum-lts.Need-loop-again (read-sum-claims t) (read-sum-at t) read-sum.Post read-sum-Inv-loop read-sum-μ-loop
-read-sum-loop-again t c = (sum-goes-on (sum-joined (c .before .before .before .before .before .before .before .before .before .before .before .before .before .before .loop .inv .0) (c .before .before .before .before .before .before .before .before .before .before .before .before .read-product .ensures) (not-false _ (c .before .before .before .before .before .before .before .before .if1 .left)) (c .before .before .before .before .before .before .joined-sum .result) _ (c .before .before .before .before .before .before .joined-sum .ensures .0) (c .before .before .before .before .before .before .joined-sum .ensures .1)) (sym (ap (λ b. eqb b 43 || eqb b 45) (c .before .before .before .byte-at .ensures)) ∙ sym (c .before .before .is-sign .ensures) ∙ not-false _ (c .before .if2 .left)) _ _ (c .before .before .before .byte-at .ensures) (c .beyond .ensures), (c .before .before .before .before .before .before .joined-sum .kept .0) ∙ (c .before .before .before .before .before .before .before .before .before .before .before .before .read-product .kept .1 .0) ∙ (c .before .before .before .before .before .before .before .before .before .before .before .before .before .before .loop .inv .1))
+read-sum-loop-again t c = (sum-goes-on (sum-joined ((c .before .before .before .before .before .before .before .before .before .before .before .before .before .before .before .before .loop) .inv .0) ((c .before .before .before .before .before .before .before .before .before .before .before .before .before .before .read-product) .ensures) ((c .before .before .before .before .before .before .before .before .before .left-of) .result) ((c .before .before .before .before .before .before .before .before .before .left-of) .ensures ∙ (c .before .before .before .before .before .before .before .before .before .before .before .before .before .before .before .before .loop) .inv .1) (not-false _ ((c .before .before .before .before .before .before .before .before .before .before .if1) .left)) ((c .before .before .before .before .before .before .before .joined-sum) .result) _ ((c .before .before .before .before .before .before .before .joined-sum) .ensures .0) ((c .before .before .before .before .before .before .before .joined-sum) .ensures .1)) (sym (ap (λ b. eqb b 43 || eqb b 45) ((c .before .before .before .before .byte-at) .ensures)) ∙ sym ((c .before .before .before .is-sign) .ensures) ∙ not-false _ ((c .before .before .if2) .left)) _ _ ((ap (λ (x : Left). x .sign) ((c .held2) .ensures)) ∙ (c .before .before .before .before .byte-at) .ensures) ((c .before .beyond) .ensures), waits-so _ _ _ _ ((c .before .beyond) .result) (ap (λ (x : Left). x .first) ((c .before .before .before .before .before .before .before .before .before .left-of) .ensures ∙ (c .before .before .before .before .before .before .before .before .before .before .before .before .before .before .before .before .loop) .inv .1)) ((c .held2) .ensures), ((c .before .before .before .before .before .before .before .joined-sum) .kept .0) ∙ ((c .before .before .before .before .before .before .before .before .before .before .before .before .before .before .read-product) .kept .1 .0) ∙ ((c .before .before .before .before .before .before .before .before .before .before .before .before .before .before .before .before .loop) .inv .2))
 
 pub +read-atom+read-bracket+read-factor+read-power+read-product+read-sum-spec :
     {M : Type 1} → statement M
@@ -570,7 +598,6 @@ pub +read-atom+read-bracket+read-factor+read-power+read-product+read-sum-spec :
     (read-factor-read-power-requires t)
     (read-factor-same-length t)
     (read-factor-returns t)
-    (read-factor-sub-negated t)
     (read-factor-negated-requires t)
     (read-factor-same-length-2 t)
     (read-factor-returns-2 t))
@@ -608,15 +635,18 @@ pub +read-atom+read-bracket+read-factor+read-power+read-product+read-sum-spec :
     read-product-Inv-loop
     read-product-μ-loop
     (read-product-starting-requires t)
+    (read-product-held-requires t)
     (read-product-loop-holds t)
     (read-product-read-factor-requires t)
     (read-product-same-length t)
     (read-product-returns t)
+    (read-product-left-of-requires t)
     (read-product-joined-product-requires t)
     (read-product-byte-at-requires t)
     (read-product-same-length-2 t)
     (read-product-returns-2 t)
     (read-product-beyond-requires t)
+    (read-product-held-requires-2 t)
     (read-product-loop-less t)
     (read-product-loop-again t))
     λ t. read-sum-lts.spec (read-sum-claims t)
@@ -625,12 +655,14 @@ pub +read-atom+read-bracket+read-factor+read-power+read-product+read-sum-spec :
     read-sum-Inv-loop
     read-sum-μ-loop
     (read-sum-starting-requires t)
+    (read-sum-held-requires t)
     (read-sum-loop-holds t)
     (read-sum-read-product-requires t)
     (read-sum-stopped-requires t)
     (read-sum-packed-requires t)
     (read-sum-same-length t)
     (read-sum-returns t)
+    (read-sum-left-of-requires t)
     (read-sum-joined-sum-requires t)
     (read-sum-byte-at-requires t)
     (read-sum-is-sign-requires t)
@@ -638,5 +670,6 @@ pub +read-atom+read-bracket+read-factor+read-power+read-product+read-sum-spec :
     (read-sum-same-length-2 t)
     (read-sum-returns-2 t)
     (read-sum-beyond-requires t)
+    (read-sum-held-requires-2 t)
     (read-sum-loop-less t)
     (read-sum-loop-again t)

@@ -16,10 +16,10 @@ abbrev μ-loop : tie.MeasureT-loop
 μ-loop plan end r₀ r = r
 
 sub-r : tie.Need-sub-r Inv-loop μ-loop
-sub-r c = omega (arith, (c .before .pre .1) .1 .1 .1 .behind, some-rows ((c .before .pre .1) .1 .1 .0))
+sub-r c = omega (arith, c .before .pre .1 .1 .1 .2 .behind, some-rows (c .before .pre .1 .1 .1 .1))
 
 loop-holds : tie.Need-loop-holds Inv-loop μ-loop
-loop-holds c = (omega (arith, (c .before .pre .1) .0, (c .before .pre .1) .1 .1 .1 .behind, some-rows ((c .before .pre .1) .1 .1 .0)), λ first operand. reached-root ((c .before .args .plan) .now) first ((c .before .args .end)) operand)
+loop-holds c = (omega (arith, (c .before .pre .1) .0, c .before .pre .1 .1 .1 .2 .behind, some-rows (c .before .pre .1 .1 .1 .1)), λ first operand. reached-root ((c .before .args .plan) .now) first ((c .before .args .end)) operand)
 
 word-requires : tie.Need-word-requires Inv-loop μ-loop
 word-requires c κs = (((c .before .before .pre .0)), (((c .loop .inv) .0), omega arith))

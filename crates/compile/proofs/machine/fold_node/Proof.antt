@@ -13,8 +13,8 @@ put-pair-requires c κs =
     let start = c .before .before .before .args .start in
     let step = c .before .before .before .args .step in
     let long = c .before .before .before .pre .0 in
-    let comp = c .before .before .before .pre .1 .2 in
-    let work = c .before .before .before .pre .1 .3 in
+    let comp = c .before .before .before .pre .1 .4 in
+    let work = c .before .before .before .pre .1 .5 in
     (long, few-rows start step p end long comp work)
 
 add-result : tie.Need-add-result
@@ -24,8 +24,8 @@ add-result c =
     let start = c .before .before .before .before .before .before .args .start in
     let step = c .before .before .before .before .before .before .args .step in
     let long = c .before .before .before .before .before .before .pre .0 in
-    let comp = c .before .before .before .before .before .before .pre .1 .2 in
-    let work = c .before .before .before .before .before .before .pre .1 .3 in
+    let comp = c .before .before .before .before .before .before .pre .1 .4 in
+    let work = c .before .before .before .before .before .before .pre .1 .5 in
     omega (arith, few-rows start step p end long comp work)
 
 same-length : tie.Need-same-length
@@ -38,7 +38,7 @@ returns c =
     let start = c .before .before .before .before .before .before .args .start in
     let step = c .before .before .before .before .before .before .args .step in
     let long = c .before .before .before .before .before .before .pre .0 in
-    λ t words comp work. number-pushed start step p end long comp work (c .before .before .before .before .if1 .taken) (c .before .before .put-pair .ensures)
+    λ t words firstByte endByte comp work. number-pushed start step p end long comp work (c .before .before .before .before .if1 .taken) (c .before .before .put-pair .ensures)
 
 put-pair-requires-2 : tie.Need-put-pair-requires-2
 put-pair-requires-2 c κs =
@@ -47,8 +47,8 @@ put-pair-requires-2 c κs =
     let start = c .before .before .before .before .args .start in
     let step = c .before .before .before .before .args .step in
     let long = c .before .before .before .before .pre .0 in
-    let comp = c .before .before .before .before .pre .1 .2 in
-    let work = c .before .before .before .before .pre .1 .3 in
+    let comp = c .before .before .before .before .pre .1 .4 in
+    let work = c .before .before .before .before .pre .1 .5 in
     (long, few-rows start step p end long comp work)
 
 add-result-2 : tie.Need-add-result-2
@@ -58,8 +58,8 @@ add-result-2 c =
     let start = c .before .before .before .before .before .before .before .args .start in
     let step = c .before .before .before .before .before .before .before .args .step in
     let long = c .before .before .before .before .before .before .before .pre .0 in
-    let comp = c .before .before .before .before .before .before .before .pre .1 .2 in
-    let work = c .before .before .before .before .before .before .before .pre .1 .3 in
+    let comp = c .before .before .before .before .before .before .before .pre .1 .4 in
+    let work = c .before .before .before .before .before .before .before .pre .1 .5 in
     omega (arith, few-rows start step p end long comp work)
 
 same-length-2 : tie.Need-same-length-2
@@ -72,7 +72,7 @@ returns-2 c =
     let start = c .before .before .before .before .before .before .before .args .start in
     let step = c .before .before .before .before .before .before .before .args .step in
     let long = c .before .before .before .before .before .before .before .pre .0 in
-    λ t words comp work. variable-pushed start step p end long comp work (c .before .before .before .before .if2 .taken) (search needs) (search needs)
+    λ t words firstByte endByte comp work. variable-pushed start step p end long comp work (c .before .before .before .before .if2 .taken) (search needs) (search needs)
     (c .before .before .put-pair2 .ensures)
 
 first-row-requires : tie.Need-first-row-requires
@@ -82,8 +82,8 @@ first-row-requires c κs =
     let start = c .before .before .before .before .args .start in
     let step = c .before .before .before .before .args .step in
     let long = c .before .before .before .before .pre .0 in
-    let comp = c .before .before .before .before .pre .1 .2 in
-    let work = (c .before .before .before .before .pre .1 .3) in (
+    let comp = c .before .before .before .before .pre .1 .4 in
+    let work = (c .before .before .before .before .pre .1 .5) in (
       long,
       (
         omega (arith, few-rows start step p end long comp work),
@@ -99,8 +99,8 @@ fold-minus-requires c κs =
     let start = c .before .before .before .before .before .before .before .args .start in
     let step = c .before .before .before .before .before .before .before .args .step in
     let long = c .before .before .before .before .before .before .before .pre .0 in
-    let comp = c .before .before .before .before .before .before .before .pre .1 .2 in
-    let work = (c .before .before .before .before .before .before .before .pre .1 .3) in (
+    let comp = c .before .before .before .before .before .before .before .pre .1 .4 in
+    let work = (c .before .before .before .before .before .before .before .pre .1 .5) in (
       long,
       (
         few-rows start step p end long comp work,
@@ -119,7 +119,7 @@ returns-3 c =
     let start = c .before .before .before .before .before .before .before .before .before .before .args .start in
     let step = c .before .before .before .before .before .before .before .before .before .before .args .step in
     let long = c .before .before .before .before .before .before .before .before .before .before .pre .0 in
-    λ t words comp work. minus-folded start step p end long comp work (c .before .before .before .before .before .first-row .ensures)
+    λ t words firstByte endByte comp work. minus-folded start step p end long comp work (c .before .before .before .before .before .first-row .ensures)
     (c .before .before .before .before .if3 .taken) (c .before .before .fold-minus .ensures)
 
 fold-power-requires : tie.Need-fold-power-requires
@@ -129,8 +129,8 @@ fold-power-requires c κs =
     let start = c .before .before .before .before .before .before .before .before .args .start in
     let step = c .before .before .before .before .before .before .before .before .args .step in
     let long = c .before .before .before .before .before .before .before .before .pre .0 in
-    let comp = c .before .before .before .before .before .before .before .before .pre .1 .2 in
-    let work = c .before .before .before .before .before .before .before .before .pre .1 .3 in
+    let comp = c .before .before .before .before .before .before .before .before .pre .1 .4 in
+    let work = c .before .before .before .before .before .before .before .before .pre .1 .5 in
     let power = power-asked start step p end long comp work (c .before .before .before .first-row .ensures) (c .before .if4 .taken) in
     (long, (few-rows start step p end long comp work, (power .1, power .0)))
 
@@ -144,7 +144,7 @@ returns-4 c =
     let start = c .before .before .before .before .before .before .before .before .before .before .before .args .start in
     let step = c .before .before .before .before .before .before .before .before .before .before .before .args .step in
     let long = c .before .before .before .before .before .before .before .before .before .before .before .pre .0 in
-    λ t words comp work. power-folded start step p end long comp work (c .before .before .before .before .before .before .first-row .ensures)
+    λ t words firstByte endByte comp work. power-folded start step p end long comp work (c .before .before .before .before .before .before .first-row .ensures)
     (c .before .before .before .before .if4 .taken) (c .before .before .fold-power .ensures)
 
 first-row-requires-2 : tie.Need-first-row-requires-2
@@ -154,8 +154,8 @@ first-row-requires-2 c κs =
     let start = c .before .before .before .before .before .before .before .before .args .start in
     let step = c .before .before .before .before .before .before .before .before .args .step in
     let long = c .before .before .before .before .before .before .before .before .pre .0 in
-    let comp = c .before .before .before .before .before .before .before .before .pre .1 .2 in
-    let work = (c .before .before .before .before .before .before .before .before .pre .1 .3) in (
+    let comp = c .before .before .before .before .before .before .before .before .pre .1 .4 in
+    let work = (c .before .before .before .before .before .before .before .before .pre .1 .5) in (
       long,
       below-asked start step p end long comp work (c .before .before .before .first-row .ensures)
           (c .before .before .before .before .before .before .if1 .left) (c .before .before .before .before .before .if2 .left) (c .before .before .if3 .left)
@@ -169,8 +169,8 @@ fold-both-requires c κs =
     let start = c .before .before .before .before .before .before .before .before .before .before .args .start in
     let step = c .before .before .before .before .before .before .before .before .before .before .args .step in
     let long = c .before .before .before .before .before .before .before .before .before .before .pre .0 in
-    let comp = c .before .before .before .before .before .before .before .before .before .before .pre .1 .2 in
-    let work = (c .before .before .before .before .before .before .before .before .before .before .pre .1 .3) in (
+    let comp = c .before .before .before .before .before .before .before .before .before .before .pre .1 .4 in
+    let work = (c .before .before .before .before .before .before .before .before .before .before .pre .1 .5) in (
       long,
       (
         few-rows start step p end long comp work,
@@ -191,7 +191,7 @@ returns-5 c =
     let start = c .before .before .before .before .before .before .before .before .before .before .before .before .before .args .start in
     let step = c .before .before .before .before .before .before .before .before .before .before .before .before .before .args .step in
     let long = c .before .before .before .before .before .before .before .before .before .before .before .before .before .pre .0 in
-    λ t words comp work. both-folded start step p end long comp work (c .before .before .before .before .before .before .before .before .first-row .ensures)
+    λ t words firstByte endByte comp work. both-folded start step p end long comp work (c .before .before .before .before .before .before .before .before .first-row .ensures)
     (c .before .before .before .before .before .before .before .before .before .before .before .if1 .left)
     (c .before .before .before .before .before .before .before .before .before .before .if2 .left)
     (c .before .before .before .before .before .before .before .if3 .left) (c .before .before .before .before .before .before .if4 .left)

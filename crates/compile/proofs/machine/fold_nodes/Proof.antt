@@ -31,89 +31,41 @@ loop-holds c =
     (refl, omega arith, omega (arith, counted plan (tree .0) (tree .2), tree .1 .few), λ t comp w. turn-first start step t comp plan w)
 
 mul-at : tie.Need-mul-at Inv-loop μ-loop
-mul-at c = omega (arith, c .before .loop .inv .0, c .before .loop .inv .1, c .before .loop .inv .2, c .before .before .before .before .pre .0)
+mul-at c = omega (arith, c .before .loop .inv .1, c .before .loop .inv .2)
 
 add-at : tie.Need-add-at Inv-loop μ-loop
-add-at c = omega (arith, c .before .loop .inv .0, c .before .loop .inv .1, c .before .loop .inv .2, c .before .before .before .before .pre .0)
+add-at c = omega (arith, c .before .loop .inv .1, c .before .loop .inv .2)
 
-mul-kind : tie.Need-mul-kind Inv-loop μ-loop
-mul-kind c = omega (arith, c .before .loop .inv .0, c .before .loop .inv .1, c .before .loop .inv .2, c .before .before .before .before .pre .0)
-
-slice-read-kind : tie.Need-slice-read-kind Inv-loop μ-loop
-slice-read-kind c =
-    omega (
-      arith,
-      c .before .before .loop .inv .0,
-      c .before .before .loop .inv .1,
-      c .before .before .loop .inv .2,
-      c .before .before .before .before .before .pre .0,
-    )
-
-add-word : tie.Need-add-word Inv-loop μ-loop
-add-word c =
-    omega (
-      arith,
-      c .before .before .loop .inv .0,
-      c .before .before .loop .inv .1,
-      c .before .before .loop .inv .2,
-      c .before .before .before .before .before .pre .0,
-    )
-
-mul-word : tie.Need-mul-word Inv-loop μ-loop
-mul-word c =
-    omega (
-      arith,
-      c .before .before .loop .inv .0,
-      c .before .before .loop .inv .1,
-      c .before .before .loop .inv .2,
-      c .before .before .before .before .before .pre .0,
-    )
-
-slice-read-word : tie.Need-slice-read-word Inv-loop μ-loop
-slice-read-word c =
-    omega (
-      arith,
-      c .before .before .before .loop .inv .0,
-      c .before .before .before .loop .inv .1,
-      c .before .before .before .loop .inv .2,
-      c .before .before .before .before .before .before .pre .0,
-    )
-
-fold-node-requires : tie.Need-fold-node-requires Inv-loop μ-loop
-fold-node-requires c κs =
-    let plan = c .before .before .before .before .before .before .before .args .plan .now in
-    let start = c .before .before .before .before .before .before .before .args .start in
-    let step = c .before .before .before .before .before .before .before .args .step in
-    let tree = (c .before .before .before .before .before .before .before .pre .1) in (
-      omega (arith, c .before .before .before .before .loop .inv .0, c .before .before .before .before .before .before .before .pre .0),
-      turn-node start
-          step (tree .0) (tree .1) ((c .before .before .before .before .loop .inv .3) (tree .0) (tree .1) (tree .2))
-          (omega (arith, counted plan (tree .0) (tree .2))),
+fold-place-requires : tie.Need-fold-place-requires Inv-loop μ-loop
+fold-place-requires c κs =
+    let plan = c .before .before .before .before .before .args .plan .now in
+    let start = c .before .before .before .before .before .args .start in
+    let step = c .before .before .before .before .before .args .step in
+    let tree = c .before .before .before .before .before .pre .1 in
+    let inv = (c .before .before .loop .inv) in (
+      omega (arith, inv .0, c .before .before .before .before .before .pre .0),
+      (
+        omega (arith, inv .2),
+        turn-node start step (tree .0) (tree .1) ((inv .3) (tree .0) (tree .1) (tree .2)) (omega (arith, counted plan (tree .0) (tree .2))),
+      ),
     )
 
 add-n : tie.Need-add-n Inv-loop μ-loop
-add-n c =
-    omega (
-      arith,
-      c .before .before .before .before .before .before .before .loop .inv .0,
-      c .before .before .before .before .before .before .before .loop .inv .1,
-      c .before .before .before .before .before .before .before .loop .inv .2,
-      c .before .before .before .before .before .before .before .before .before .before .pre .0,
-    )
+add-n c = omega (arith, c .before .before .before .before .before .loop .inv .1, c .before .before .before .before .before .loop .inv .2)
 
 loop-less : tie.Need-loop-less Inv-loop μ-loop
 loop-less c = search needs
 
 loop-again : tie.Need-loop-again Inv-loop μ-loop
 loop-again c =
-    let plan = c .before .before .before .before .before .before .before .before .before .before .args .plan .now in
-    let start = c .before .before .before .before .before .before .before .before .before .before .args .start in
-    let step = (c .before .before .before .before .before .before .before .before .before .before .args .step) in (
-      omega (arith, c .before .before .fold-node .kept, c .before .before .before .before .before .before .before .loop .inv .0),
+    let plan = c .before .before .before .before .before .before .before .before .args .plan .now in
+    let start = c .before .before .before .before .before .before .before .before .args .start in
+    let step = c .before .before .before .before .before .before .before .before .args .step in
+    let inv = (c .before .before .before .before .before .loop .inv) in (
+      omega (arith, c .before .before .fold-place .kept, inv .0),
       omega arith,
       omega arith,
-      λ t comp w. turn-next start step t comp ((c .before .before .before .before .before .before .before .loop .inv .3) t comp w)
-          (omega (arith, counted plan t w)) (c .before .before .fold-node .ensures),
+      λ t comp w. turn-next start step t comp ((inv .3) t comp w) (omega (arith, counted plan t w)) (c .before .before .fold-place .ensures),
     )
 
 same-length : tie.Need-same-length Inv-loop μ-loop
@@ -136,12 +88,7 @@ fold-nodes-spec =
     loop-holds
     mul-at
     add-at
-    mul-kind
-    slice-read-kind
-    add-word
-    mul-word
-    slice-read-word
-    fold-node-requires
+    fold-place-requires
     add-n
     loop-less
     loop-again

@@ -4,6 +4,7 @@ use Prim.Native.Nat.{_≤_}
 use native.Mathlib.Omega.{arith}
 use lib.ListN.{length, length-set}
 use Rattle.plan.specs.Measures.{mostRows}
+use Rattle.formula.specs.Tree.{spanOf}
 use Rattle.fold.specs.Folding.{fold}
 use Rattle.compile.proofs.Assembled.{assembled, whole-length}
 use borrow.Author.Needs.{needs}
@@ -75,7 +76,7 @@ same-length c =
     let at = (done .ensures) (tree .0) (tree .1) (tree .2) in
     ap length (assembled (args .start) (args .step) (args .plan .now) (done .last .0) (tree .0) (done .result) long (omega (arith, done .kept)) at
     (c .before .before .before .before .start .ensures) (c .before .before .clear .ensures))
-    ∙ whole-length (fold 64 (args .start) (args .step) (tree .0)) (args .plan .now) (subst (λ n. n ≤ mostRows) (at .rows) (at .few)) long
+    ∙ whole-length (spanOf (tree .0)) (fold 64 (args .start) (args .step) (tree .0)) (args .plan .now) (subst (λ n. n ≤ mostRows) (at .rows) (at .few)) long
 
 returns : tie.Need-returns
 returns c =

@@ -1,11 +1,12 @@
--- `print_rows` is safe and ends: there are at most 128 rows. Invariant: the words of the rows are at most 2,560.
+-- `print_rows` is safe and ends: there are at most 128 rows. Invariant: the words of the rows are at most those of a plan's rows.
 use Prim.Native.Nat.{_-_, _≤_}
 use borrow.Author.Needs.{needs}
+use Rattle.plan.specs.Measures.{rowsLength}
 use Rattle.edges.proofs.plans.print_rows.Statement.{statement}
 use Rattle.edges.proofs.plans.print_rows.Tie as tie
 
 abbrev Inv-loop : tie.InvT-loop
-Inv-loop plan most counted words i₀ i = words ≤ 2560
+Inv-loop plan most counted words i₀ i = words ≤ rowsLength
 
 abbrev μ-loop : tie.MeasureT-loop
 μ-loop plan most counted words i₀ i = words - i
