@@ -17,8 +17,8 @@ use Rattle.fold.specs.Folded.{Folded, constant, isConstant}
 use Rattle.reason.specs.declared.Seen.{Seen}
 use Rattle.reason.specs.RowTrees.{operandSpans, operatorOver, treeOver, trees, rowTree}
 use Rattle.reason.specs.Reasons.{isOperator, Reason}
-use Rattle.reason.proofs.Operands.{seen}
-use Rattle.reason.proofs.Deciding.{sumNumber, productNumber, minusNumber, powerNumber, raiseNumber, reasonOf, Kept, has-reason}
+use Rattle.reason.proofs.Numbers.{seen, sumNumber, productNumber, minusNumber, powerNumber, raiseNumber, reasonOf}
+use Rattle.reason.proofs.Deciding.{Kept, has-reason}
 use Rattle.reason.proofs.TreeLaws.{earlier-tree, test, each-operator, seenIn, constant-tree, operator-tree, seen-in-row}
 
 -- The number for a row that is counted: 0 for kinds 0 to 2.

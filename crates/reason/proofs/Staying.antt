@@ -1,6 +1,6 @@
 -- What it says of the operands that a row stays, operator by operator: no rule's test holds. And where none holds, the row stays.
 use mathlib.Core.Path.{_≡_, refl, sym, ap, ap₂, _∙_}
-use mathlib.Core.Bool.{Bool, true, false, cond, _&&_, _||_, true≢false, false≢true, and-false}
+use mathlib.Core.Bool.{Bool, true, false, cond, not, _&&_, _||_, true≢false, false≢true}
 use mathlib.Core.List.{List, [], _∷_, map}
 use Prim.Native.Nat.{ℕ, _+_, _*_, _≤_}
 use native.Mathlib.Omega.{arith}
@@ -11,6 +11,7 @@ use Rattle.chain.specs.Chain.{rest, words, trimmed}
 use Rattle.chain.specs.SumChain as SumChain
 use Rattle.chain.specs.ProductChain as ProductChain
 use Rattle.formula.specs.Tree.{Span}
+use Rattle.formula_scan.proofs.Parity.{neither}
 use Rattle.fold.specs.Folded.{Spans, Folded, constant, sumChain, productChain, sumRow, differenceRow, productRow, minusRow, powerRow, raiseRow}
 use Rattle.fold.specs.Folded.{isConstant, isSumChain, isProductChain, elements, ofSum, ofProduct, trimmedSum, trimmedProduct}
 use Rattle.fold.specs.Folding.{wordOf, is, constants, isSum, lengthOf, foldSum, foldMinus, foldDifference, foldProduct, foldPower, foldRaise}
@@ -176,6 +177,14 @@ module _ (w : ℕ) (s : Spans) (a b : Folded) where
 
 -- ---- minus, literal power and raise
 module _ (w : ℕ) (s : Span) (a : Folded) where
+  pub minus-facts : Stays w (minusRow s a) → isOperator a ≡ true
+  unfolding foldedAgain foldMinus
+  minus-facts e =
+      let constant = not-taken (isConstant a) (λ _. no-row refl refl) e in
+      let every = not-taken (isSumChain a) (λ _. no-row (sum-leaf (map (λ f. Word.negation w f) (elements a))) refl) (constant .1) in
+      let first = not-taken (isProductChain a) (λ _. no-row (product-leaf (Word.negation w (wordOf a) ∷ rest (elements a))) refl) (every .1) in
+      ap₂ (λ t u. not (t || u)) (constant .0) (ap₂ _||_ (every .0) (first .0))
+
   pub minus-stays : isOperator a ≡ true → Stays w (minusRow s a)
   unfolding foldedAgain foldMinus
   minus-stays e =
@@ -203,3 +212,18 @@ module _ (w : ℕ) (s : Span) (a : Folded) where
         (passed (eqb n 0) _ (ne-eqb n 0 (λ e. omega arith))
         (passed (eqb n 1) _ (ne-eqb n 1 (λ e. omega arith))
         (passed (isSumChain a && leb (lengthOf a * n) 16) _ sums (passed (isProductChain a) _ each refl))))
+
+-- The base of a raise is a constant.
+module _ (w : ℕ) (s : Spans) (c : ℕ) (b : Folded) where
+  pub raise-facts : Stays w (raiseRow s (constant c) b) → isSum b ≡ false
+  unfolding foldedAgain foldRaise
+  raise-facts e =
+      let worked = not-taken (isConstant b) (λ _. no-row refl refl) e in
+      let raised = not-taken (isSumChain b) (λ _. no-row (product-leaf (words w (ProductChain.raised c (elements b)))) refl) (worked .1) in
+      ap₂ _||_ (worked .0) (raised .0)
+
+  pub raise-stays : isSum b ≡ false → Stays w (raiseRow s (constant c) b)
+  unfolding foldedAgain foldRaise
+  raise-stays e =
+      let none = neither (isConstant b) (isSumChain b) e in
+      passed (isConstant b) _ (none .0) (passed (isSumChain b) _ (none .1) refl)

@@ -20,7 +20,7 @@ use Rattle.fold.proofs.Rules.{picked}
 use Rattle.fold.proofs.Origins.{kindOf}
 use Rattle.reason.specs.declared.Seen.{Seen}
 use Rattle.reason.specs.RowTrees.{operatorOver, treeOver, treeAfter, trees, rowTree}
-use Rattle.reason.proofs.Operands.{seen}
+use Rattle.reason.proofs.Numbers.{seen}
 use Rattle.reason.proofs.Staying.{passed}
 
 -- ---- row after row
