@@ -58,7 +58,7 @@ returns-2 c =
     let asked = some .before .before .before .before .before .before .pre in
     let b = lent (args .line .now) (args .defaults .now) (args .plan .now) (args .table .now) (args .out .now) in
     let room = length (args .out .now) - 67 in
-    let same = done .kept .1 .1 .1 .1 .1 .0 in
+    let same = done .kept .1 .1 .1 .1 .1 .1 .0 in
     let fits = last-fits (args .tool) (args .progress) b (some .if1 .left) (asked .0) room (omega arith) (done .ensures) (omega (arith, same)) in (
       last-some (args .tool) (args .progress) b (some .if1 .left) (asked .0) room (omega arith) (done .ensures) (omega (arith, same)),
       omega (arith, fits, asked .1 .1 .1 .1 .1 .1),
