@@ -76,12 +76,14 @@ fn explained(row: &[u64], reason: u64) -> ReasonAnswer
     requires { ⌜ length (now row) ≡ rowLength ⌝ }
     ensures { λ a. ⌜ a ≡ record { number = 0; place = 0; reason = reason; first = firstByte (now (row .entry)); end = endByte (now (row .entry)) } ⌝ }
 {
+    let first = row[SPAN_START];
+    let end = row[SPAN_START + 1];
     ReasonAnswer {
         number: 0,
         place: 0,
         reason,
-        first: row[SPAN_START],
-        end: row[SPAN_START + 1],
+        first,
+        end,
     }
 }
 
