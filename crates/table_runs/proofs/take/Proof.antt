@@ -5,16 +5,16 @@ use native.Mathlib.Omega.{arith}
 use lib.ListN.{length}
 use borrow.Author.Tests.{not-false}
 use borrow.Author.Needs.{needs}
-use Rattle.table_printer.proofs.take.Statement.{statement}
-use Rattle.table_printer.proofs.take.Tie as tie
+use Rattle.table_runs.proofs.take.Statement.{statement}
+use Rattle.table_runs.proofs.take.Tie as tie
 
 abbrev Inv-loop : tie.InvT-loop
-Inv-loop input line₀ defaults₀ plan₀ table₀ out₀ going₀ at₀ line defaults plan table out going at =
+Inv-loop tool input line₀ defaults₀ plan₀ table₀ out₀ going₀ at₀ line defaults plan table out going at =
     (at ≤ length input) × (going .filled ≤ length out) × (length line ≡ length line₀) × (length defaults ≡ length defaults₀)
     × (length plan ≡ length plan₀) × (length table ≡ length table₀) × (length out ≡ length out₀)
 
 abbrev μ-loop : tie.MeasureT-loop
-μ-loop input line₀ defaults₀ plan₀ table₀ out₀ going₀ at₀ line defaults plan table out going at = length input - at
+μ-loop tool input line₀ defaults₀ plan₀ table₀ out₀ going₀ at₀ line defaults plan table out going at = length input - at
 
 loop-holds : tie.Need-loop-holds Inv-loop μ-loop
 loop-holds c = search needs
@@ -55,7 +55,7 @@ add-at c =
     omega (
       arith,
       turned .turn .ensures .1 .0,
-      turned .before .before .before .before .before .before .before .before .before .before .before .before .before .before .before .good .1 .0,
+      turned .before .before .before .before .before .before .before .before .before .before .before .before .before .before .before .good .1 .1 .0,
     )
 
 loop-less : tie.Need-loop-less Inv-loop μ-loop

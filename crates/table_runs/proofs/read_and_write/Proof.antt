@@ -1,20 +1,20 @@
--- `run` reads and takes steps, and counts its turns down.
+-- `read_and_write` reads and takes steps, and counts its turns down.
 use mathlib.Core.Path.{_≡_}
 use Prim.Native.Nat.{_≤_}
 use native.Mathlib.Omega.{arith}
 use lib.ListN.{length}
 use borrow.Author.Tests.{ltb-true}
 use borrow.Author.Needs.{needs}
-use Rattle.table_printer.proofs.run.Statement.{statement}
-use Rattle.table_printer.proofs.run.Tie as tie
+use Rattle.table_runs.proofs.read_and_write.Statement.{statement}
+use Rattle.table_runs.proofs.read_and_write.Tie as tie
 
 abbrev Inv-loop : tie.InvT-loop
-Inv-loop input₀ line₀ defaults₀ plan₀ table₀ out₀ progress₀ got₀ turns₀ input line defaults plan table out progress got turns =
+Inv-loop tool input₀ line₀ defaults₀ plan₀ table₀ out₀ progress₀ got₀ turns₀ input line defaults plan table out progress got turns =
     (got ≤ length input) × (length input ≡ length input₀) × (length line ≡ length line₀) × (length defaults ≡ length defaults₀)
     × (length plan ≡ length plan₀) × (length table ≡ length table₀) × (length out ≡ length out₀)
 
 abbrev μ-loop : tie.MeasureT-loop
-μ-loop input₀ line₀ defaults₀ plan₀ table₀ out₀ progress₀ got₀ turns₀ input line defaults plan table out progress got turns = turns
+μ-loop tool input₀ line₀ defaults₀ plan₀ table₀ out₀ progress₀ got₀ turns₀ input line defaults plan table out progress got turns = turns
 
 start-requires : tie.Need-start-requires Inv-loop μ-loop
 start-requires c κs = search needs
@@ -71,7 +71,18 @@ loop-less c =
     omega (arith, ltb-true 0 (more .before .before .loop .turns) (more .if1 .taken))
 
 loop-again : tie.Need-loop-again Inv-loop μ-loop
-loop-again c = search needs
+loop-again c =
+    let taken = c .before .before .before .before .before .before .before .before .before .before .before .before .before .before .before .before .before in
+    let kept = taken .take .kept in
+    let inv = taken .before .before .before .before .before .before .before .before .before .before .loop .inv in (
+      c .before .before .read2 .ensures,
+      omega (arith, c .before .before .read2 .kept .0, inv .1),
+      omega (arith, kept .1 .1 .1 .0, inv .2),
+      omega (arith, kept .1 .1 .1 .1 .0, inv .3),
+      omega (arith, kept .1 .1 .1 .1 .1 .0, inv .4),
+      omega (arith, kept .1 .1 .1 .1 .1 .1 .0, inv .5),
+      omega (arith, kept .1 .1 .1 .1 .1 .1 .1 .0, inv .6),
+    )
 
 end-requires : tie.Need-end-requires Inv-loop μ-loop
 end-requires c κs = search needs
@@ -97,8 +108,8 @@ same-length-12 c = search needs
 returns-2 : tie.Need-returns-2 Inv-loop μ-loop
 returns-2 c = search needs
 
-pub run-spec : {M : Type 1} → statement M
-run-spec =
+pub read-and-write-spec : {M : Type 1} → statement M
+read-and-write-spec =
     tie.close
     (tie.spec
     Inv-loop

@@ -2,8 +2,8 @@
 use native.Mathlib.Omega.{arith}
 use borrow.Author.Needs.{needs}
 use Rattle.table_progress.proofs.OutRoom.{end-within}
-use Rattle.table_printer.proofs.finish.Statement.{statement}
-use Rattle.table_printer.proofs.finish.Tie as tie
+use Rattle.table_runs.proofs.finish.Statement.{statement}
+use Rattle.table_runs.proofs.finish.Tie as tie
 
 finish-requires : tie.Need-finish-requires
 finish-requires c κs = search needs
@@ -24,7 +24,7 @@ returns : tie.Need-returns
 returns c =
     let finished = c .before .before .before .before .before .before .before .before in
     let start = finished .before .before .before .before .before .before .before .before .before .before in
-    let within = end-within (start .args .progress) (finished .finish .ensures) in
+    let within = end-within (start .args .tool) (start .args .progress) (finished .finish .ensures) in
     omega (arith, within .wrote, finished .finish .kept)
 
 pub finish-spec : {M : Type 1} → statement M

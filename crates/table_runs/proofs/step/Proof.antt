@@ -2,8 +2,8 @@
 use native.Mathlib.Omega.{arith}
 use borrow.Author.Needs.{needs}
 use Rattle.table_progress.proofs.OutRoom.{step-within}
-use Rattle.table_printer.proofs.step.Statement.{statement}
-use Rattle.table_printer.proofs.step.Tie as tie
+use Rattle.table_runs.proofs.step.Statement.{statement}
+use Rattle.table_runs.proofs.step.Tie as tie
 
 sub-step : tie.Need-sub-step
 sub-step c = search needs
@@ -36,7 +36,7 @@ returns : tie.Need-returns
 returns c =
     let stepped = c .before .before .before .before .before .before .before .before .before .before in
     let start = stepped .before .before .before .before .before .before .before .before .before .before .before .before in
-    let within = step-within (start .args .progress) (stepped .step .ensures) in
+    let within = step-within (start .args .tool) (start .args .progress) (stepped .step .ensures) in
     (omega (arith, within .wrote, stepped .step .kept), (within .used, within .moves))
 
 pub step-spec : {M : Type 1} → statement M

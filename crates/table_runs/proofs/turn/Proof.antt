@@ -3,8 +3,8 @@ use mathlib.Core.Path.{sym}
 use mathlib.Core.Bool.{true≢false}
 use native.Mathlib.Omega.{arith}
 use borrow.Author.Needs.{needs}
-use Rattle.table_printer.proofs.turn.Statement.{statement}
-use Rattle.table_printer.proofs.turn.Tie as tie
+use Rattle.table_runs.proofs.turn.Statement.{statement}
+use Rattle.table_runs.proofs.turn.Tie as tie
 
 make-room-requires : tie.Need-make-room-requires
 make-room-requires c κs = search needs
