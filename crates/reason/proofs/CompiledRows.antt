@@ -104,14 +104,16 @@ module _ (p : List ℕ) (w : ℕ) where
 
     read-both : (make : Spans → Folded → Folded → Folded)
         → rowTree p behindTwo
-        ≡ make (record { left = spanIn (row p (rootRow n a)); right = spanIn (row p (rootRow middle b)) }) (found (rootRow n a)) (found (rootRow middle b))
+        ≡ make (record { left = spanIn (row p (rootRow n a)); right = spanIn (row p (rootRow middle b)) })
+        (found (rootRow n a)) (found (rootRow middle b))
         → Stays w (make s a b) → Standing (row p) n (rowsFrom n (s .left) a ++ rowsFrom middle (s .right) b)
         → (Rows n (s .left) a → Read n (rowCount a) a) → (Rows middle (s .right) b → Read middle (rowCount b) b)
         → Read n (rowCount a + rowCount b + 1) (make s a b)
     read-both make own here stands left right = record {
       root = same;
       rows = λ j least most.
-          among-both j n (rowCount a) (rowCount b) most (left front-rows .rows j least) (right later-rows .rows j) (stays-at behindTwo (make s a b) same here j);
+          among-both j n (rowCount a) (rowCount b) most (left front-rows .rows j least) (right later-rows .rows j)
+          (stays-at behindTwo (make s a b) same here j);
     }
       where
         front-rows : Rows n (s .left) a

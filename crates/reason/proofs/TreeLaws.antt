@@ -20,7 +20,7 @@ use Rattle.fold.proofs.Rules.{picked}
 use Rattle.fold.proofs.Origins.{kindOf}
 use Rattle.reason.specs.declared.Seen.{Seen}
 use Rattle.reason.specs.RowTrees.{operatorOver, treeOver, treeAfter, trees, rowTree}
-use Rattle.reason.proofs.Operands.{seen}
+use Rattle.reason.proofs.Numbers.{seen}
 use Rattle.reason.proofs.Staying.{passed}
 
 -- ---- row after row
@@ -61,7 +61,8 @@ each-operator P k least most p₃ p₄ p₅ p₆ p₇ p₈ =
 
 -- ---- what is seen of a row
 -- What one test picks of two things agrees if they do, each where it is picked.
-picked-both : {A B : Type 0} (P : A → B → Type 0) (t : Bool) {x y : A} {u v : B} → (t ≡ true → P x u) → (t ≡ false → P y v) → P (cond t x y) (cond t u v)
+picked-both : {A B : Type 0} (P : A → B → Type 0) (t : Bool) {x y : A} {u v : B} → (t ≡ true → P x u) → (t ≡ false → P y v)
+    → P (cond t x y) (cond t u v)
 picked-both P true first second = first refl
 picked-both P false first second = second refl
 
@@ -141,7 +142,8 @@ module _ (s : Spans) (left right : Folded) (x : Row) where
   unfolding operatorOver treeOver seenIn kindOf
   seen-in-row long known =
       picked-both Agree (eqb (kind x) 0) (λ e. refl)
-      (λ n₀. picked-both Agree (eqb (kind x) 1) (λ e. sum-seen (chainOf x) ∙ ap (chainSeen 1 (length (trimmed 0 (chainOf x)) - 1)) (first-in-chain 0 x long))
+      (λ n₀. picked-both Agree (eqb (kind x) 1)
+      (λ e. sum-seen (chainOf x) ∙ ap (chainSeen 1 (length (trimmed 0 (chainOf x)) - 1)) (first-in-chain 0 x long))
       (λ n₁. picked-both Agree (eqb (kind x) 2)
       (λ e. product-seen (chainOf x)
       ∙ ap (λ c. cond (eqb c 0) (constantSeen 0) (chainSeen 2 (length (trimmed 1 (chainOf x)) - 1) c)) (first-in-chain 1 x long))
@@ -154,4 +156,5 @@ module _ (s : Spans) (left right : Folded) (x : Row) where
       least n₀ n₁ n₂ = omega arith
 
       operators : 3 ≤ kind x → seen (operatorOver (kind x) (wordB x) s left right) ≡ operatorSeen (kind x)
-      operators least = each-operator (λ k. seen (operatorOver k (wordB x) s left right) ≡ operatorSeen k) (kind x) least known refl refl refl refl refl refl
+      operators least =
+          each-operator (λ k. seen (operatorOver k (wordB x) s left right) ≡ operatorSeen k) (kind x) least known refl refl refl refl refl refl
