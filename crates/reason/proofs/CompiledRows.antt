@@ -1,17 +1,16 @@
 -- The rows of a compiled plan: each stands for a part of the folded tree, and so 01 would fold none of them.
 use mathlib.Core.Path.{_≡_, refl, sym, ap, ap₂, subst, _∙_}
 use mathlib.Core.Bool.{Bool, true, false}
-use mathlib.Core.List.{List, [], _∷_, _++_}
+use mathlib.Core.List.{List, _++_}
 use Prim.Native.Nat.{ℕ, _+_, _-_, _≤_, _<_}
 use native.Mathlib.Nat.{zero-add}
 use native.Mathlib.Omega.{arith}
 use lib.Dec.{ltb}
-use lib.ListN.{length, getD}
+use lib.ListN.{getD}
 use borrow.Author.Tests.{ltb-true, ltb-false}
 use Rattle.chain.specs.Chain as Chain
 use Rattle.formula.specs.Tree.{Span, span, first, end, Tree, spanOf}
 use Rattle.formula.specs.Refusals.{Accepted}
-use Rattle.plan.specs.Row.{Row, kind}
 use Rattle.plan.specs.Plan as Plan
 use Rattle.plan.specs.Plan.{row}
 use Rattle.fold.specs.Folded.{Spans, Folded, constant, sumChain, productChain, sumRow, differenceRow, productRow, minusRow, powerRow, raiseRow}

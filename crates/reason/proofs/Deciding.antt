@@ -1,4 +1,5 @@
--- Every row of kinds 3 to 8 has the reason whose number is worked out, where its own words are as soundness asks. That it has no other is in OneReason.antt.
+-- Every row of kinds 3 to 8 has the reason whose number is worked out, where its own words are as soundness asks. That it has no other is in
+-- OneReason.antt.
 use mathlib.Core.Path.{_≡_, refl, sym, ap, ap₂, subst, _∙_}
 use mathlib.Core.Bool.{Bool, true, false, cond, not, _&&_, _||_, true≢false, false≢true}
 use Prim.Native.Nat.{ℕ, _+_, _*_, _≤_}
@@ -19,10 +20,10 @@ use Rattle.reason.specs.Reasons.{on-the-right, on-the-left, of-both, of-
 use Rattle.reason.specs.Reasons.{Named, operand-stays, lengths-add, length-times, against-product, two-products, exponent-neither}
 use Rattle.reason.specs.Reasons.{Reason, would-fold, stays}
 use Rattle.reason.proofs.Operands.{Chain, a-constant, a-sum, a-product, chain-operand, no-chain, left-none, right-none}
-use Rattle.reason.proofs.Numbers.{seen, isWord, hasWord, operates, hasOperator, word-seen, operator-seen}
+use Rattle.reason.proofs.Numbers.{seen, hasWord, operates, hasOperator, word-seen, operator-seen}
 use Rattle.reason.proofs.Numbers.{sumFolds, alikeFolds, productFolds, minusFolds, powerFolds, raiseFolds, joinedNumber, judged}
 use Rattle.reason.proofs.Numbers.{sumNumber, productNumber, minusNumber, powerNumber, raiseNumber, reasonOf}
-use Rattle.reason.proofs.Staying.{passed, Unsummed, sum-facts, sum-stays, Unmultiplied, product-facts, product-stays}
+use Rattle.reason.proofs.Staying.{passed, sum-facts, sum-stays, Unmultiplied, product-facts, product-stays}
 use Rattle.reason.proofs.Staying.{minus-facts, minus-stays, power-facts, power-stays, raise-facts, raise-stays}
 
 -- ---- a row whose staying is told by a test
@@ -33,16 +34,13 @@ reason-judged : {w : ℕ} {t : Folded} {n : ℕ} (folds : Bool) → Tells w t fo
 reason-judged true tells named = would-fold (λ e. true≢false (tells .0 e))
 reason-judged false tells named = stays (tells .1 refl) (named (tells .1 refl))
 
--- ---- tests
-no-sum : (a : Folded) → isOperator a ≡ true → isSum a ≡ false
-no-sum a e = let none = no-chain a e in ap₂ _||_ (none .0) (none .1)
-
+-- ---- the operands
 words-seen : (n : ℕ) (a b : Folded) → (is n a || is n b) ≡ hasWord n (seen a) (seen b)
 words-seen n a b = ap₂ _||_ (word-seen n a) (word-seen n b)
 
 -- What holds where the left one is an operator, where the right one is, and where both are constants or chains, holds.
-by-operands : {A : Type 0} (P : A → Type 0) (a b : Folded) {x y : A} → (isOperator a ≡ true → P x) → (isOperator b ≡ true → P x) → (Chain a → Chain b → P y)
-    → P (cond (hasOperator (seen a) (seen b)) x y)
+by-operands : {A : Type 0} (P : A → Type 0) (a b : Folded) {x y : A} → (isOperator a ≡ true → P x) → (isOperator b ≡ true → P x)
+    → (Chain a → Chain b → P y) → P (cond (hasOperator (seen a) (seen b)) x y)
 by-operands P a b left right chains =
     picked P (hasOperator (seen a) (seen b))
     (λ e. either (operates (seen a)) (operates (seen b)) e (λ t. left (operator-seen a ∙ t)) (λ t. right (operator-seen b ∙ t)))
@@ -78,7 +76,8 @@ module _ (w : ℕ) where
   unfolding sumNumber joinedNumber
   sum-decided {t} {a} {b} o =
       reason-judged (sumFolds (seen a) (seen b)) (sum-tells o)
-      (λ e. by-operands (Named t) a b (λ l. operand-stays (left-stays (added o) l)) (λ r. operand-stays (right-stays (added o) r)) (sum-named o (sum-facts w o e .sums)))
+      (λ e. by-operands (Named t) a b (λ l. operand-stays (left-stays (added o) l)) (λ r. operand-stays (right-stays (added o) r))
+      (sum-named o (sum-facts w o e .sums)))
 
 -- ---- *
 -- One operand is an operator, and neither is 1 or 0.
@@ -171,7 +170,8 @@ module _ (w : ℕ) (s : Spans) where
     unfolding productNumber joinedNumber
     product-decided =
         reason-judged (productFolds (seen a) (seen b)) product-tells
-        (λ e. by-operands (Named (productRow s a b)) a b (λ l. operand-stays (left-stays (times s a b) l)) (λ r. operand-stays (right-stays (times s a b) r))
+        (λ e. by-operands (Named (productRow s a b)) a b
+        (λ l. operand-stays (left-stays (times s a b) l)) (λ r. operand-stays (right-stays (times s a b) r))
         (λ A B. chain-products-stay (product-facts w s a b e) A B .1))
 
 -- ---- minus, literal power and raise

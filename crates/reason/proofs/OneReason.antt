@@ -1,6 +1,7 @@
 -- A row has no two reasons: the last is judged first, and the others exclude each other by the operator and the kinds of its operands.
 use mathlib.Core.Path.{_≡_, refl, sym, ap, ap₂, subst, _∙_}
 use mathlib.Core.Bool.{Bool, true, false, cond, _&&_, _||_, or-true}
+use mathlib.Core.Logic.{_↔_}
 use Prim.Native.Nat.{ℕ, _≤_}
 use native.Mathlib.Omega.{arith}
 use lib.Dec.{eqb}
@@ -114,3 +115,6 @@ only-folding (stays s x) e = absurd (omega (arith, named-most x))
 pub only-named : {w : ℕ} {t : Folded} {n : ℕ} → Reason w t n → (n ≡ 7 → ⊥) → Stays w t × Named t n
 only-named (would-fold h) other = absurd (other refl)
 only-named (stays s x) other = (s, x)
+
+pub seven-exactly : (w : ℕ) (t : Folded) → Reason w t 7 ↔ Folds w t
+seven-exactly w t = (λ reason. only-folding reason refl, would-fold)

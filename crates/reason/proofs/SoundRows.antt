@@ -1,21 +1,21 @@
 -- The rows of a sound plan: the trees of their operands, and the reason of each row of kinds 3 to 8, by the words of the rows.
 use mathlib.Core.Path.{_≡_, refl, sym, ap, ap₂, subst, _∙_}
-use mathlib.Core.Bool.{Bool, true, false, cond, _&&_}
-use mathlib.Core.List.{List, []}
-use Prim.Native.Nat.{ℕ, zero, suc, _≤_, _<_}
+use mathlib.Core.Bool.{true, cond}
+use mathlib.Core.List.{List}
+use Prim.Native.Nat.{ℕ, _≤_, _<_}
 use native.Mathlib.Omega.{arith}
 use lib.Dec.{eqb, ltb}
 use lib.ListN.{length, getD}
 use borrow.Author.Tests.{ltb-true, lt-ltb, le-ltb}
-use Rattle.plan.specs.Measures.{planLength, mostRows, rowLength}
-use Rattle.plan.specs.Row.{Row, kind, wordA, wordB, kindFacts, operandCount, keepsTable, soundA, soundB, oddConstant, soundBase, firstElement}
+use Rattle.plan.specs.Measures.{planLength, mostRows}
+use Rattle.plan.specs.Row.{Row, kind, wordA, wordB, kindFacts, keepsTable, soundA, soundB, oddConstant, soundBase}
 use Rattle.plan.specs.Plan.{rowCount, row, firstRows, sound}
 use Rattle.plan.proofs.RowLaws.{length-row}
 use Rattle.plan.proofs.SoundLaws.{and-left, and-right, sound-count, sound-row, sound-keeps, raise-sound}
 use Rattle.plan.proofs.SoundLaws.{kept-kind, kept-a, kept-b, kept-b-small, kept-exponent}
 use Rattle.fold.specs.Folded.{Folded, constant, isConstant}
 use Rattle.reason.specs.declared.Seen.{Seen}
-use Rattle.reason.specs.RowTrees.{operandSpans, operatorOver, treeOver, trees, rowTree}
+use Rattle.reason.specs.RowTrees.{operandSpans, operatorOver, trees, rowTree}
 use Rattle.reason.specs.Reasons.{isOperator, Reason}
 use Rattle.reason.proofs.Numbers.{seen, sumNumber, productNumber, minusNumber, powerNumber, raiseNumber, reasonOf}
 use Rattle.reason.proofs.Deciding.{Kept, has-reason}

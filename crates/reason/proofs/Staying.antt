@@ -12,7 +12,7 @@ use Rattle.chain.specs.SumChain as SumChain
 use Rattle.chain.specs.ProductChain as ProductChain
 use Rattle.formula.specs.Tree.{Span}
 use Rattle.formula_scan.proofs.Parity.{neither}
-use Rattle.fold.specs.Folded.{Spans, Folded, constant, sumChain, productChain, sumRow, differenceRow, productRow, minusRow, powerRow, raiseRow}
+use Rattle.fold.specs.Folded.{Spans, Folded, constant, sumRow, differenceRow, productRow, minusRow, powerRow, raiseRow}
 use Rattle.fold.specs.Folded.{isConstant, isSumChain, isProductChain, elements, ofSum, ofProduct, trimmedSum, trimmedProduct}
 use Rattle.fold.specs.Folding.{wordOf, is, constants, isSum, lengthOf, foldSum, foldMinus, foldDifference, foldProduct, foldPower, foldRaise}
 use Rattle.fold.specs.Layout.{rowCount}

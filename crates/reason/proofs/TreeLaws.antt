@@ -1,5 +1,5 @@
 -- The trees of a plan's rows, one row after the other, and what the rules see of a row's tree: its own words tell it.
-use mathlib.Core.Path.{_≡_, refl, sym, ap, ap₂, subst, _∙_}
+use mathlib.Core.Path.{_≡_, refl, sym, ap, subst, _∙_}
 use mathlib.Core.Bool.{Bool, true, false, cond, true≢false}
 use mathlib.Core.List.{List, [], _∷_, _++_}
 use Prim.Native.Nat.{ℕ, zero, suc, _+_, _-_, _≤_, _<_}
@@ -7,19 +7,18 @@ use native.Mathlib.Nat.{not-suc-le-zero}
 use native.Mathlib.Numerals.{add-one}
 use native.Mathlib.Omega.{arith}
 use lib.Dec.{eqb, ltb}
-use lib.ListN.{length, getD, take, drop, length-append, length-take, length-drop, List·getD-append}
+use lib.ListN.{length, getD, drop, length-append, length-take, length-drop, List·getD-append}
 use lib.Seq.{getD-at, getD-take, getD-drop}
-use borrow.Author.Tests.{ltb-true, ltb-false, eqb-true, eqb-false, eq-eqb, ne-eqb}
+use borrow.Author.Tests.{ltb-true, ltb-false, eqb-true, eqb-false, ne-eqb}
 use Rattle.chain.specs.Chain.{value, rest, withoutTrailing, trimmed}
 use Rattle.plan.specs.Measures.{elementsStart, elementCount, rowLength}
 use Rattle.plan.specs.Row.{Row, kind, wordA, wordB, elements, firstElement}
-use Rattle.plan.specs.Plan.{row}
 use Rattle.plan.specs.Points.{chainOf}
 use Rattle.fold.specs.Folded.{Spans, Folded, constant, isConstant, ofSum, ofProduct, trimmedSum, trimmedProduct}
 use Rattle.fold.proofs.Rules.{picked}
 use Rattle.fold.proofs.Origins.{kindOf}
 use Rattle.reason.specs.declared.Seen.{Seen}
-use Rattle.reason.specs.RowTrees.{operatorOver, treeOver, treeAfter, trees, rowTree}
+use Rattle.reason.specs.RowTrees.{operatorOver, treeOver, trees, rowTree}
 use Rattle.reason.proofs.Numbers.{seen}
 use Rattle.reason.proofs.Staying.{passed}
 
