@@ -72,8 +72,9 @@ fn run(line: &[u8], tokens: &[u8]) {
         lent = step(text::part(tokens, at, blank.end), lent, &mut plan);
         at = blank.after;
     }
+    let count = words::word_at(&plan, 0) as usize;
     let held = words::at_most(lent, plan.len());
-    ask_all(&plan[0..held], words::word_at(&plan, 0) as usize);
+    ask_all(&plan[0..held], count);
     print::label(print::LINE);
 }
 
