@@ -1,4 +1,5 @@
--- What the tests of the rules say of an operand, by the kind of its root row: 0, 1 and 2 for a constant, a sum chain and a product chain, 3 to 8 for an operator.
+-- What the tests of the rules say of an operand, by the kind of its root row: 0, 1 and 2 for a constant, a sum chain and a product chain, 3 to 8 for an
+-- operator.
 use mathlib.Core.Path.{_≡_, refl}
 use lib.Dec.{eqb, ltb}
 use Rattle.fold.specs.Folded.{Folded, constant, sumChain, productChain, sumRow, differenceRow, productRow, minusRow, powerRow, raiseRow}

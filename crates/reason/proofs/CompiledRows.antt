@@ -1,17 +1,16 @@
 -- The rows of a compiled plan: each stands for a part of the folded tree, and so 01 would fold none of them.
 use mathlib.Core.Path.{_≡_, refl, sym, ap, ap₂, subst, _∙_}
 use mathlib.Core.Bool.{Bool, true, false}
-use mathlib.Core.List.{List, [], _∷_, _++_}
+use mathlib.Core.List.{List, _++_}
 use Prim.Native.Nat.{ℕ, _+_, _-_, _≤_, _<_}
 use native.Mathlib.Nat.{zero-add}
 use native.Mathlib.Omega.{arith}
 use lib.Dec.{ltb}
-use lib.ListN.{length, getD}
+use lib.ListN.{getD}
 use borrow.Author.Tests.{ltb-true, ltb-false}
 use Rattle.chain.specs.Chain as Chain
 use Rattle.formula.specs.Tree.{Span, span, first, end, Tree, spanOf}
 use Rattle.formula.specs.Refusals.{Accepted}
-use Rattle.plan.specs.Row.{Row, kind}
 use Rattle.plan.specs.Plan as Plan
 use Rattle.plan.specs.Plan.{row}
 use Rattle.fold.specs.Folded.{Spans, Folded, constant, sumChain, productChain, sumRow, differenceRow, productRow, minusRow, powerRow, raiseRow}
@@ -104,14 +103,16 @@ module _ (p : List ℕ) (w : ℕ) where
 
     read-both : (make : Spans → Folded → Folded → Folded)
         → rowTree p behindTwo
-        ≡ make (record { left = spanIn (row p (rootRow n a)); right = spanIn (row p (rootRow middle b)) }) (found (rootRow n a)) (found (rootRow middle b))
+        ≡ make (record { left = spanIn (row p (rootRow n a)); right = spanIn (row p (rootRow middle b)) })
+        (found (rootRow n a)) (found (rootRow middle b))
         → Stays w (make s a b) → Standing (row p) n (rowsFrom n (s .left) a ++ rowsFrom middle (s .right) b)
         → (Rows n (s .left) a → Read n (rowCount a) a) → (Rows middle (s .right) b → Read middle (rowCount b) b)
         → Read n (rowCount a + rowCount b + 1) (make s a b)
     read-both make own here stands left right = record {
       root = same;
       rows = λ j least most.
-          among-both j n (rowCount a) (rowCount b) most (left front-rows .rows j least) (right later-rows .rows j) (stays-at behindTwo (make s a b) same here j);
+          among-both j n (rowCount a) (rowCount b) most (left front-rows .rows j least) (right later-rows .rows j)
+          (stays-at behindTwo (make s a b) same here j);
     }
       where
         front-rows : Rows n (s .left) a

@@ -1,6 +1,7 @@
 -- Laws of the reasons, for the crates above.
 pub mod Operands
 pub mod Staying
+pub mod Numbers
 pub mod Deciding
 pub mod OneReason
 pub mod TreeLaws

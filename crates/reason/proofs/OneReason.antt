@@ -1,28 +1,22 @@
 -- A row has no two reasons: the last is judged first, and the others exclude each other by the operator and the kinds of its operands.
 use mathlib.Core.Path.{_≡_, refl, sym, ap, ap₂, subst, _∙_}
-use mathlib.Core.Bool.{true, false, cond, _&&_, _||_, or-true}
+use mathlib.Core.Bool.{Bool, true, false, cond, _&&_, _||_, or-true}
+use mathlib.Core.Logic.{_↔_}
 use Prim.Native.Nat.{ℕ, _≤_}
 use native.Mathlib.Omega.{arith}
-use Rattle.fold.specs.Folded.{Folded, constant, sumChain, productChain, sumRow, differenceRow, productRow, minusRow, powerRow, raiseRow}
-use Rattle.fold.specs.Folded.{isConstant, isSumChain, isProductChain}
+use lib.Dec.{eqb}
+use Rattle.fold.specs.Folded.{Folded, isConstant, isSumChain, isProductChain}
 use Rattle.fold.specs.Folding.{isSum}
 use Rattle.fold.proofs.Tests.{either, shaped}
+use Rattle.fold.proofs.Origins.{kindOf}
+use Rattle.fold.proofs.KindTests.{sum-chain-test, product-chain-test}
 use Rattle.reason.specs.Reasons.{Folds, PlusOrMinus, plus, less, OfTwo, added, times, isOperator}
-use Rattle.reason.specs.Reasons.{left-stays, right-stays, under-minus, under-power, of-chains, of-chain, on-the-right, on-the-left, of-both, of-raise}
-use Rattle.reason.specs.Reasons.{Named, operand-stays, lengths-add, length-times, against-product, two-products, exponent-neither, Reason, would-fold, stays}
+use Rattle.reason.specs.Reasons.{left-stays, right-stays, under-minus, under-power, of-chains, of-chain}
+use Rattle.reason.specs.Reasons.{on-the-right, on-the-left, of-both, of-raise}
+use Rattle.reason.specs.Reasons.{Named, operand-stays, lengths-add, length-times, against-product, two-products, exponent-neither}
+use Rattle.reason.specs.Reasons.{Reason, would-fold, stays}
 use Rattle.reason.proofs.Operands.{left-none, right-none}
-
--- The one of the first six reasons that a row can have.
-unfoldable namedOf : Folded → ℕ
-namedOf (constant c) = 0
-namedOf (sumChain f) = 0
-namedOf (productChain f) = 0
-namedOf (sumRow s a b) = cond (isOperator a || isOperator b) 1 (cond (isProductChain a && isProductChain b) 5 4)
-namedOf (differenceRow s a b) = cond (isOperator a || isOperator b) 1 (cond (isProductChain a && isProductChain b) 5 4)
-namedOf (productRow s a b) = cond (isOperator a || isOperator b) 1 (cond (isSumChain a && isSumChain b) 2 4)
-namedOf (minusRow s a) = 1
-namedOf (powerRow s a n) = cond (isOperator a) 1 3
-namedOf (raiseRow s a b) = 6
+use Rattle.reason.proofs.Numbers.{seen, operator-seen, joinedNumber, otherOf}
 
 -- What the tests in the reasons say of an operand beside.
 module _ (a : Folded) where
@@ -38,49 +32,68 @@ module _ (a : Folded) where
   product-is : isProductChain a ≡ true → (isOperator a ≡ false) × (isSumChain a ≡ false)
   product-is e = subst (λ c. (isOperator c ≡ false) × (isSumChain c ≡ false)) (sym (shaped a .multiplied e)) (refl, refl)
 
--- The number of + - and *, by what the tests say.
-operator-named : {t a b : Folded} → OfTwo t a b → (isOperator a || isOperator b) ≡ true → 1 ≡ namedOf t
-unfolding namedOf
-operator-named (added (plus s a b)) e = sym (ap (λ t. cond t 1 (cond (isProductChain a && isProductChain b) 5 4)) e)
-operator-named (added (less s a b)) e = sym (ap (λ t. cond t 1 (cond (isProductChain a && isProductChain b) 5 4)) e)
-operator-named (times s a b) e = sym (ap (λ t. cond t 1 (cond (isSumChain a && isSumChain b) 2 4)) e)
+-- The number of + - and *, by what the tests say; k is the kind of which both operands would be, and n their number.
+module _ (k n : ℕ) (a b : Folded) where
+  operator-joined : (isOperator a || isOperator b) ≡ true → 1 ≡ joinedNumber k n (seen a) (seen b)
+  unfolding joinedNumber
+  operator-joined e = sym (ap (λ t. cond t 1 (cond (eqb (kindOf a) k && eqb (kindOf b) k) n 4)) (sym (ap₂ _||_ (operator-seen a) (operator-seen b)) ∙ e))
 
-against-named : {t a b : Folded} → OfTwo t a b → isOperator a ≡ false → isOperator b ≡ false
-    → (isProductChain a && isProductChain b) ≡ false → (isSumChain a && isSumChain b) ≡ false → 4 ≡ namedOf t
-unfolding namedOf
-against-named (added (plus s a b)) p q products sums = sym (ap₂ (λ t u. cond t 1 (cond u 5 4)) (ap₂ _||_ p q) products)
-against-named (added (less s a b)) p q products sums = sym (ap₂ (λ t u. cond t 1 (cond u 5 4)) (ap₂ _||_ p q) products)
-against-named (times s a b) p q products sums = sym (ap₂ (λ t u. cond t 1 (cond u 2 4)) (ap₂ _||_ p q) sums)
+  module _ (left : isOperator a ≡ false) (right : isOperator b ≡ false) where
+    chains-joined : (t : Bool) → (eqb (kindOf a) k && eqb (kindOf b) k) ≡ t → joinedNumber k n (seen a) (seen b) ≡ cond t n 4
+    unfolding joinedNumber
+    chains-joined t e = ap₂ (λ t u. cond t 1 (cond u n 4)) (ap₂ _||_ (sym (operator-seen a) ∙ left) (sym (operator-seen b) ∙ right)) e
 
-products-named : {t a b : Folded} → PlusOrMinus t a b → isOperator a ≡ false → isOperator b ≡ false → (isProductChain a && isProductChain b) ≡ true → 5 ≡ namedOf t
-unfolding namedOf
-products-named (plus s a b) p q products = sym (ap₂ (λ t u. cond t 1 (cond u 5 4)) (ap₂ _||_ p q) products)
-products-named (less s a b) p q products = sym (ap₂ (λ t u. cond t 1 (cond u 5 4)) (ap₂ _||_ p q) products)
+-- Both operands are product chains, or sum chains.
+products-seen : (a b : Folded) {t : Bool} → (isProductChain a && isProductChain b) ≡ t → (eqb (kindOf a) 2 && eqb (kindOf b) 2) ≡ t
+products-seen a b e = sym (ap₂ _&&_ (product-chain-test a) (product-chain-test b)) ∙ e
 
-named-is : {t : Folded} {n : ℕ} → Named t n → n ≡ namedOf t
-unfolding namedOf
-named-is (operand-stays (left-stays {a} {b} o e)) = operator-named o (ap (λ t. t || isOperator b) e)
-named-is (operand-stays (right-stays {a} {b} o e)) = operator-named o (ap (λ t. isOperator a || t) e ∙ or-true (isOperator a))
-named-is (operand-stays (under-minus s a e)) = refl
-named-is (operand-stays (under-power s a n e)) = sym (ap (λ t. cond t 1 3) e)
-named-is (lengths-add (of-chains s a b p q over)) =
-    sym (ap₂ (λ t u. cond t 1 (cond u 2 4)) (ap₂ _||_ (sum-chain-is a p) (sum-chain-is b q)) (ap₂ _&&_ p q))
-named-is (length-times (of-chain s a n p over)) = sym (ap (λ t. cond t 1 3) (sum-chain-is a p))
-named-is (against-product (on-the-right {a} {b} o p q)) =
-    against-named o (sum-is a p .0) (product-is b q .0) (left-none (isProductChain a) (isProductChain b) (sum-is a p .1))
+sums-seen : (a b : Folded) {t : Bool} → (isSumChain a && isSumChain b) ≡ t → (eqb (kindOf a) 1 && eqb (kindOf b) 1) ≡ t
+sums-seen a b e = sym (ap₂ _&&_ (sum-chain-test a) (sum-chain-test b)) ∙ e
+
+-- The same of a row.
+operator-other : {t a b : Folded} → OfTwo t a b → (isOperator a || isOperator b) ≡ true → 1 ≡ otherOf t
+unfolding otherOf
+operator-other (added (plus s a b)) = operator-joined 2 5 a b
+operator-other (added (less s a b)) = operator-joined 2 5 a b
+operator-other (times s a b) = operator-joined 1 2 a b
+
+against-other : {t a b : Folded} → OfTwo t a b → isOperator a ≡ false → isOperator b ≡ false
+    → (isProductChain a && isProductChain b) ≡ false → (isSumChain a && isSumChain b) ≡ false → 4 ≡ otherOf t
+unfolding otherOf
+against-other (added (plus s a b)) p q products sums = sym (chains-joined 2 5 a b p q false (products-seen a b products))
+against-other (added (less s a b)) p q products sums = sym (chains-joined 2 5 a b p q false (products-seen a b products))
+against-other (times s a b) p q products sums = sym (chains-joined 1 2 a b p q false (sums-seen a b sums))
+
+products-other : {t a b : Folded} → PlusOrMinus t a b → isOperator a ≡ false → isOperator b ≡ false
+    → (isProductChain a && isProductChain b) ≡ true → 5 ≡ otherOf t
+unfolding otherOf
+products-other (plus s a b) p q products = sym (chains-joined 2 5 a b p q true (products-seen a b products))
+products-other (less s a b) p q products = sym (chains-joined 2 5 a b p q true (products-seen a b products))
+
+other-is : {t : Folded} {n : ℕ} → Named t n → n ≡ otherOf t
+unfolding otherOf
+other-is (operand-stays (left-stays {a} {b} o e)) = operator-other o (ap (λ t. t || isOperator b) e)
+other-is (operand-stays (right-stays {a} {b} o e)) = operator-other o (ap (λ t. isOperator a || t) e ∙ or-true (isOperator a))
+other-is (operand-stays (under-minus s a e)) = refl
+other-is (operand-stays (under-power s a n e)) = sym (ap (λ t. cond t 1 3) (sym (operator-seen a) ∙ e))
+other-is (lengths-add (of-chains s a b p q over)) =
+    sym (chains-joined 1 2 a b (sum-chain-is a p) (sum-chain-is b q) true (sums-seen a b (ap₂ _&&_ p q)))
+other-is (length-times (of-chain s a n p over)) = sym (ap (λ t. cond t 1 3) (sym (operator-seen a) ∙ sum-chain-is a p))
+other-is (against-product (on-the-right {a} {b} o p q)) =
+    against-other o (sum-is a p .0) (product-is b q .0) (left-none (isProductChain a) (isProductChain b) (sum-is a p .1))
     (right-none (isSumChain a) (isSumChain b) (product-is b q .1))
-named-is (against-product (on-the-left {a} {b} o p q)) =
-    against-named o (product-is a p .0) (sum-is b q .0) (right-none (isProductChain a) (isProductChain b) (sum-is b q .1))
+other-is (against-product (on-the-left {a} {b} o p q)) =
+    against-other o (product-is a p .0) (sum-is b q .0) (right-none (isProductChain a) (isProductChain b) (sum-is b q .1))
     (left-none (isSumChain a) (isSumChain b) (product-is a p .1))
-named-is (two-products (of-both {a} {b} o p q)) = products-named o (product-is a p .0) (product-is b q .0) (ap₂ _&&_ p q)
-named-is (exponent-neither (of-raise s a b p)) = refl
+other-is (two-products (of-both {a} {b} o p q)) = products-other o (product-is a p .0) (product-is b q .0) (ap₂ _&&_ p q)
+other-is (exponent-neither (of-raise s a b p)) = refl
 
 -- A row has one reason.
 pub one-reason : {w : ℕ} {t : Folded} {n m : ℕ} → Reason w t n → Reason w t m → n ≡ m
 one-reason (would-fold h) (would-fold k) = refl
 one-reason (would-fold h) (stays s x) = absurd (h s)
 one-reason (stays s x) (would-fold h) = absurd (h s)
-one-reason (stays s x) (stays r y) = named-is x ∙ sym (named-is y)
+one-reason (stays s x) (stays r y) = other-is x ∙ sym (other-is y)
 
 -- The first six reasons have the numbers 1 to 6, and 7 is given exactly when 01 folds the row.
 named-most : {t : Folded} {n : ℕ} → Named t n → (1 ≤ n) × (n ≤ 6)
@@ -98,3 +111,6 @@ reason-known (stays s x) = (named-most x .0, omega (arith, named-most x))
 pub only-folding : {w : ℕ} {t : Folded} {n : ℕ} → Reason w t n → n ≡ 7 → Folds w t
 only-folding (would-fold h) e = h
 only-folding (stays s x) e = absurd (omega (arith, named-most x))
+
+pub seven-exactly : (w : ℕ) (t : Folded) → Reason w t 7 ↔ Folds w t
+seven-exactly w t = (λ reason. only-folding reason refl, would-fold)

@@ -1,15 +1,10 @@
--- An operand is a constant, a chain or an operator. What the folding rules see of it: its kind, the length of its chain and its first element.
+-- An operand is a constant, a chain or an operator.
 use mathlib.Core.Path.{_≡_, refl, ap, _∙_}
 use mathlib.Core.Bool.{Bool, true, false, not, _&&_, _||_, true≢false, false≢true, and-false}
 use mathlib.Core.List.{List}
 use Prim.Native.Nat.{ℕ}
-use lib.Dec.{eqb, ltb}
 use Rattle.fold.specs.Folded.{Folded, constant, sumChain, productChain, sumRow, differenceRow, productRow, minusRow, powerRow, raiseRow}
 use Rattle.fold.specs.Folded.{isConstant, isSumChain, isProductChain}
-use Rattle.fold.specs.Folding.{wordOf, is, lengthOf}
-use Rattle.fold.proofs.Origins.{kindOf}
-use Rattle.fold.proofs.KindTests.{constant-test}
-use Rattle.reason.specs.declared.Seen.{Seen}
 use Rattle.reason.specs.Reasons.{isOperator}
 
 -- ---- one of two tests that doesn't hold
@@ -45,29 +40,3 @@ no-chain a = go (isConstant a) (isSumChain a) (isProductChain a)
     go false true p e = absurd (false≢true e)
     go false false true e = absurd (false≢true e)
     go false false false e = (refl, refl, refl)
-
--- ---- what is seen of it
-abbrev pub seen : Folded → Seen
-seen a = record { kind = kindOf a; length = lengthOf a; first = wordOf a }
-
--- The constant n; an operator.
-abbrev pub isWord : ℕ → Seen → Bool
-isWord n x = eqb (x .kind) 0 && eqb (x .first) n
-
-abbrev pub operates : Seen → Bool
-operates x = ltb 2 (x .kind)
-
-pub word-seen : (n : ℕ) (a : Folded) → is n a ≡ isWord n (seen a)
-word-seen n a = ap (λ t. t && eqb (wordOf a) n) (constant-test a)
-
-pub operator-seen : (a : Folded) → isOperator a ≡ operates (seen a)
-unfolding kindOf
-operator-seen (constant c) = refl
-operator-seen (sumChain f) = refl
-operator-seen (productChain f) = refl
-operator-seen (sumRow s a b) = refl
-operator-seen (differenceRow s a b) = refl
-operator-seen (productRow s a b) = refl
-operator-seen (minusRow s a) = refl
-operator-seen (powerRow s a n) = refl
-operator-seen (raiseRow s a b) = refl

@@ -1,23 +1,24 @@
 -- The rows of a sound plan: the trees of their operands, and the reason of each row of kinds 3 to 8, by the words of the rows.
 use mathlib.Core.Path.{_≡_, refl, sym, ap, ap₂, subst, _∙_}
-use mathlib.Core.Bool.{Bool, true, false, cond, _&&_}
-use mathlib.Core.List.{List, []}
-use Prim.Native.Nat.{ℕ, zero, suc, _≤_, _<_}
+use mathlib.Core.Bool.{true, cond}
+use mathlib.Core.List.{List}
+use Prim.Native.Nat.{ℕ, _≤_, _<_}
 use native.Mathlib.Omega.{arith}
 use lib.Dec.{eqb, ltb}
 use lib.ListN.{length, getD}
 use borrow.Author.Tests.{ltb-true, lt-ltb, le-ltb}
-use Rattle.plan.specs.Measures.{planLength, mostRows, rowLength}
-use Rattle.plan.specs.Row.{Row, kind, wordA, wordB, kindFacts, operandCount, keepsTable, soundA, soundB, oddConstant, soundBase, firstElement}
+use Rattle.plan.specs.Measures.{planLength, mostRows}
+use Rattle.plan.specs.Row.{Row, kind, wordA, wordB, kindFacts, keepsTable, soundA, soundB, oddConstant, soundBase}
 use Rattle.plan.specs.Plan.{rowCount, row, firstRows, sound}
 use Rattle.plan.proofs.RowLaws.{length-row}
-use Rattle.plan.proofs.SoundLaws.{and-left, and-right, sound-count, sound-row, sound-keeps, kept-kind, kept-a, kept-b, kept-b-small, kept-exponent, raise-sound}
+use Rattle.plan.proofs.SoundLaws.{and-left, and-right, sound-count, sound-row, sound-keeps, raise-sound}
+use Rattle.plan.proofs.SoundLaws.{kept-kind, kept-a, kept-b, kept-b-small, kept-exponent}
 use Rattle.fold.specs.Folded.{Folded, constant, isConstant}
 use Rattle.reason.specs.declared.Seen.{Seen}
-use Rattle.reason.specs.RowTrees.{operandSpans, operatorOver, treeOver, trees, rowTree}
+use Rattle.reason.specs.RowTrees.{operandSpans, operatorOver, trees, rowTree}
 use Rattle.reason.specs.Reasons.{isOperator, Reason}
-use Rattle.reason.proofs.Operands.{seen}
-use Rattle.reason.proofs.Deciding.{sumNumber, productNumber, minusNumber, powerNumber, raiseNumber, reasonOf, Kept, has-reason}
+use Rattle.reason.proofs.Numbers.{seen, sumNumber, productNumber, minusNumber, powerNumber, raiseNumber, reasonOf}
+use Rattle.reason.proofs.Deciding.{Kept, has-reason}
 use Rattle.reason.proofs.TreeLaws.{earlier-tree, test, each-operator, seenIn, constant-tree, operator-tree, seen-in-row}
 
 -- The number for a row that is counted: 0 for kinds 0 to 2.
@@ -59,16 +60,21 @@ module _ (p : List ℕ) (long : planLength ≤ length p) (s : sound p ≡ true) 
       pub left-earlier : wordA own < r
       unfolding kindFacts
       left-earlier =
-          each-operator (λ k. soundA r k (wordA own) ≡ true → wordA own < r) (kind own) operator known
-          (ltb-true (wordA own) r) (ltb-true (wordA own) r) (ltb-true (wordA own) r) (ltb-true (wordA own) r) (ltb-true (wordA own) r) (ltb-true (wordA own) r)
+          each-operator (λ k. soundA r k (wordA own) ≡ true → wordA own < r) (kind own) operator known before before before before before before
           (kept-a r own kept)
+        where
+          before : ltb (wordA own) r ≡ true → wordA own < r
+          before = ltb-true (wordA own) r
 
       pub right-earlier : (kind own ≡ 6 → ⊥) → (kind own ≡ 7 → ⊥) → wordB own < r
       unfolding kindFacts
       right-earlier no-minus no-power =
           each-operator (λ k. (k ≡ 6 → ⊥) → (k ≡ 7 → ⊥) → soundB r k (wordB own) ≡ true → wordB own < r) (kind own) operator known
-          (λ _ _. ltb-true (wordB own) r) (λ _ _. ltb-true (wordB own) r) (λ _ _. ltb-true (wordB own) r)
-          (λ none _. absurd (none refl)) (λ _ none. absurd (none refl)) (λ _ _. ltb-true (wordB own) r) no-minus no-power (kept-b r own kept)
+          (λ _ _. before) (λ _ _. before) (λ _ _. before) (λ none _. absurd (none refl)) (λ _ none. absurd (none refl)) (λ _ _. before)
+          no-minus no-power (kept-b r own kept)
+        where
+          before : ltb (wordB own) r ≡ true → wordB own < r
+          before = ltb-true (wordB own) r
 
       -- Its operands' trees, and what is seen of them.
       abbrev leftTree : Folded

@@ -1,6 +1,6 @@
 -- What it says of the operands that a row stays, operator by operator: no rule's test holds. And where none holds, the row stays.
 use mathlib.Core.Path.{_≡_, refl, sym, ap, ap₂, _∙_}
-use mathlib.Core.Bool.{Bool, true, false, cond, _&&_, _||_, true≢false, false≢true, and-false}
+use mathlib.Core.Bool.{Bool, true, false, cond, not, _&&_, _||_, true≢false, false≢true}
 use mathlib.Core.List.{List, [], _∷_, map}
 use Prim.Native.Nat.{ℕ, _+_, _*_, _≤_}
 use native.Mathlib.Omega.{arith}
@@ -11,7 +11,8 @@ use Rattle.chain.specs.Chain.{rest, words, trimmed}
 use Rattle.chain.specs.SumChain as SumChain
 use Rattle.chain.specs.ProductChain as ProductChain
 use Rattle.formula.specs.Tree.{Span}
-use Rattle.fold.specs.Folded.{Spans, Folded, constant, sumChain, productChain, sumRow, differenceRow, productRow, minusRow, powerRow, raiseRow}
+use Rattle.formula_scan.proofs.Parity.{neither}
+use Rattle.fold.specs.Folded.{Spans, Folded, constant, sumRow, differenceRow, productRow, minusRow, powerRow, raiseRow}
 use Rattle.fold.specs.Folded.{isConstant, isSumChain, isProductChain, elements, ofSum, ofProduct, trimmedSum, trimmedProduct}
 use Rattle.fold.specs.Folding.{wordOf, is, constants, isSum, lengthOf, foldSum, foldMinus, foldDifference, foldProduct, foldPower, foldRaise}
 use Rattle.fold.specs.Layout.{rowCount}
@@ -67,7 +68,8 @@ no-constants a b = go (isConstant a) (isSumChain a) (isConstant b) (isSumChain b
 minus-no-difference : (w : ℕ) (u : Span) (s : Spans) (a b c : Folded) → foldMinus w u c ≡ differenceRow s a b → ⊥
 unfolding kindOf
 minus-no-difference w u s a b c =
-    minus-rules (λ f. f ≡ differenceRow s a b → ⊥) w u c (λ _. no-row refl refl) (λ _. no-row (sum-leaf (map (λ f. Word.negation w f) (elements c))) refl)
+    minus-rules (λ f. f ≡ differenceRow s a b → ⊥) w u c (λ _. no-row refl refl)
+    (λ _. no-row (sum-leaf (map (λ f. Word.negation w f) (elements c))) refl)
     (λ _. no-row (product-leaf (Word.negation w (wordOf c) ∷ rest (elements c))) refl) (λ e. omega (arith, ap kindOf e))
 
 -- The rules of + and - are the same but for what they leave.
@@ -118,6 +120,12 @@ pub record Unmultiplied (a b : Folded) : Type 0 where
   pub sums : (isSumChain a && isSumChain b && leb (lengthOf a + lengthOf b) 16) ≡ false
 
 module _ (w : ℕ) (s : Spans) (a b : Folded) where
+  no-sum-row : (f : List ℕ) → trimmedSum (words w f) ≡ productRow s a b → ⊥
+  no-sum-row f = no-row (sum-leaf (words w f)) refl
+
+  no-product-row : (f : List ℕ) → trimmedProduct (words w f) ≡ productRow s a b → ⊥
+  no-product-row f = no-row (product-leaf (words w f)) refl
+
   pub product-facts : Stays w (productRow s a b) → Unmultiplied a b
   unfolding foldedAgain foldProduct rowCount
   product-facts e =
@@ -125,12 +133,21 @@ module _ (w : ℕ) (s : Spans) (a b : Folded) where
       let left-one = not-taken (is 1 a) (λ _ same. omega (arith, ap rowCount same)) (worked .1) in
       let right-one = not-taken (is 1 b) (λ _ same. omega (arith, ap rowCount same)) (left-one .1) in
       let zeros = not-taken (is 0 a || is 0 b) (λ _. no-row refl refl) (right-one .1) in
-      let left-scales = not-taken (isConstant a && isSumChain b) (λ _. no-row (sum-leaf (words w (SumChain.scaled (wordOf a) (elements b)))) refl) (zeros .1) in
-      let right-scales = not-taken (isSumChain a && isConstant b) (λ _. no-row (sum-leaf (words w (SumChain.scaled (wordOf b) (elements a)))) refl) (left-scales .1) in
-      let left-first = not-taken (isConstant a && isProductChain b) (λ _. no-row (product-leaf (words w (ProductChain.scaledFirst (wordOf a) (elements b)))) refl) (right-scales .1) in
-      let right-first = not-taken (isProductChain a && isConstant b) (λ _. no-row (product-leaf (words w (ProductChain.scaledFirst (wordOf b) (elements a)))) refl) (left-first .1) in
-      let products = not-taken (isProductChain a && isProductChain b) (λ _. no-row (product-leaf (words w (ProductChain.jointProduct (elements a) (elements b)))) refl) (right-first .1) in
-      let sums = not-taken (isSumChain a && isSumChain b && leb (lengthOf a + lengthOf b) 16) (λ _. no-row (sum-leaf (words w (SumChain.product (elements a) (elements b)))) refl) (products .1) in
+      let left-scales = not-taken (isConstant a && isSumChain b) (λ _. no-sum-row (SumChain.scaled (wordOf a) (elements b))) (zeros .1) in
+      let right-scales = not-taken (isSumChain a && isConstant b) (λ _. no-sum-row (SumChain.scaled (wordOf b) (elements a))) (left-scales .1) in
+      let left-first =
+      not-taken (isConstant a && isProductChain b) (λ _. no-product-row (ProductChain.scaledFirst (wordOf a) (elements b))) (right-scales .1)
+      in
+      let right-first =
+      not-taken (isProductChain a && isConstant b) (λ _. no-product-row (ProductChain.scaledFirst (wordOf b) (elements a))) (left-first .1)
+      in
+      let products =
+      not-taken (isProductChain a && isProductChain b) (λ _. no-product-row (ProductChain.jointProduct (elements a) (elements b))) (right-first .1)
+      in
+      let sums =
+      not-taken (isSumChain a && isSumChain b && leb (lengthOf a + lengthOf b) 16) (λ _. no-sum-row (SumChain.product (elements a) (elements b)))
+      (products .1)
+      in
       record {
         worked = worked .0;
         left-one = left-one .0;
@@ -160,6 +177,14 @@ module _ (w : ℕ) (s : Spans) (a b : Folded) where
 
 -- ---- minus, literal power and raise
 module _ (w : ℕ) (s : Span) (a : Folded) where
+  pub minus-facts : Stays w (minusRow s a) → isOperator a ≡ true
+  unfolding foldedAgain foldMinus
+  minus-facts e =
+      let constant = not-taken (isConstant a) (λ _. no-row refl refl) e in
+      let every = not-taken (isSumChain a) (λ _. no-row (sum-leaf (map (λ f. Word.negation w f) (elements a))) refl) (constant .1) in
+      let first = not-taken (isProductChain a) (λ _. no-row (product-leaf (Word.negation w (wordOf a) ∷ rest (elements a))) refl) (every .1) in
+      ap₂ (λ t u. not (t || u)) (constant .0) (ap₂ _||_ (every .0) (first .0))
+
   pub minus-stays : isOperator a ≡ true → Stays w (minusRow s a)
   unfolding foldedAgain foldMinus
   minus-stays e =
@@ -167,13 +192,16 @@ module _ (w : ℕ) (s : Span) (a : Folded) where
       passed (isConstant a) _ (none .0) (passed (isSumChain a) _ (none .1) (passed (isProductChain a) _ (none .2) refl))
 
   module _ (n : ℕ) (some : 2 ≤ n) where
-    pub power-facts : Stays w (powerRow s a n) → (isConstant a ≡ false) × ((isSumChain a && leb (lengthOf a * n) 16) ≡ false) × (isProductChain a ≡ false)
+    pub power-facts : Stays w (powerRow s a n)
+        → (isConstant a ≡ false) × ((isSumChain a && leb (lengthOf a * n) 16) ≡ false) × (isProductChain a ≡ false)
     unfolding foldedAgain foldPower rowCount
     power-facts e =
         let worked = not-taken (isConstant a) (λ _. no-row refl refl) e in
         let none = not-taken (eqb n 0) (λ _. no-row refl refl) (worked .1) in
         let once = not-taken (eqb n 1) (λ _ same. omega (arith, ap rowCount same)) (none .1) in
-        let sums = not-taken (isSumChain a && leb (lengthOf a * n) 16) (λ _. no-row (sum-leaf (words w (SumChain.power (elements a) n))) refl) (once .1) in
+        let sums =
+        not-taken (isSumChain a && leb (lengthOf a * n) 16) (λ _. no-row (sum-leaf (words w (SumChain.power (elements a) n))) refl) (once .1)
+        in
         let each = not-taken (isProductChain a) (λ _. no-row (product-leaf (words w (ProductChain.powerOfEach (elements a) n))) refl) (sums .1) in
         (worked .0, sums .0, each .0)
 
@@ -184,3 +212,18 @@ module _ (w : ℕ) (s : Span) (a : Folded) where
         (passed (eqb n 0) _ (ne-eqb n 0 (λ e. omega arith))
         (passed (eqb n 1) _ (ne-eqb n 1 (λ e. omega arith))
         (passed (isSumChain a && leb (lengthOf a * n) 16) _ sums (passed (isProductChain a) _ each refl))))
+
+-- The base of a raise is a constant.
+module _ (w : ℕ) (s : Spans) (c : ℕ) (b : Folded) where
+  pub raise-facts : Stays w (raiseRow s (constant c) b) → isSum b ≡ false
+  unfolding foldedAgain foldRaise
+  raise-facts e =
+      let worked = not-taken (isConstant b) (λ _. no-row refl refl) e in
+      let raised = not-taken (isSumChain b) (λ _. no-row (product-leaf (words w (ProductChain.raised c (elements b)))) refl) (worked .1) in
+      ap₂ _||_ (worked .0) (raised .0)
+
+  pub raise-stays : isSum b ≡ false → Stays w (raiseRow s (constant c) b)
+  unfolding foldedAgain foldRaise
+  raise-stays e =
+      let none = neither (isConstant b) (isSumChain b) e in
+      passed (isConstant b) _ (none .0) (passed (isSumChain b) _ (none .1) refl)

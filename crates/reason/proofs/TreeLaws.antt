@@ -1,5 +1,5 @@
 -- The trees of a plan's rows, one row after the other, and what the rules see of a row's tree: its own words tell it.
-use mathlib.Core.Path.{_≡_, refl, sym, ap, ap₂, subst, _∙_}
+use mathlib.Core.Path.{_≡_, refl, sym, ap, subst, _∙_}
 use mathlib.Core.Bool.{Bool, true, false, cond, true≢false}
 use mathlib.Core.List.{List, [], _∷_, _++_}
 use Prim.Native.Nat.{ℕ, zero, suc, _+_, _-_, _≤_, _<_}
@@ -7,20 +7,19 @@ use native.Mathlib.Nat.{not-suc-le-zero}
 use native.Mathlib.Numerals.{add-one}
 use native.Mathlib.Omega.{arith}
 use lib.Dec.{eqb, ltb}
-use lib.ListN.{length, getD, take, drop, length-append, length-take, length-drop, List·getD-append}
+use lib.ListN.{length, getD, drop, length-append, length-take, length-drop, List·getD-append}
 use lib.Seq.{getD-at, getD-take, getD-drop}
-use borrow.Author.Tests.{ltb-true, ltb-false, eqb-true, eqb-false, eq-eqb, ne-eqb}
+use borrow.Author.Tests.{ltb-true, ltb-false, eqb-true, eqb-false, ne-eqb}
 use Rattle.chain.specs.Chain.{value, rest, withoutTrailing, trimmed}
 use Rattle.plan.specs.Measures.{elementsStart, elementCount, rowLength}
 use Rattle.plan.specs.Row.{Row, kind, wordA, wordB, elements, firstElement}
-use Rattle.plan.specs.Plan.{row}
 use Rattle.plan.specs.Points.{chainOf}
 use Rattle.fold.specs.Folded.{Spans, Folded, constant, isConstant, ofSum, ofProduct, trimmedSum, trimmedProduct}
 use Rattle.fold.proofs.Rules.{picked}
 use Rattle.fold.proofs.Origins.{kindOf}
 use Rattle.reason.specs.declared.Seen.{Seen}
-use Rattle.reason.specs.RowTrees.{operatorOver, treeOver, treeAfter, trees, rowTree}
-use Rattle.reason.proofs.Operands.{seen}
+use Rattle.reason.specs.RowTrees.{operatorOver, treeOver, trees, rowTree}
+use Rattle.reason.proofs.Numbers.{seen}
 use Rattle.reason.proofs.Staying.{passed}
 
 -- ---- row after row
@@ -61,7 +60,8 @@ each-operator P k least most p₃ p₄ p₅ p₆ p₇ p₈ =
 
 -- ---- what is seen of a row
 -- What one test picks of two things agrees if they do, each where it is picked.
-picked-both : {A B : Type 0} (P : A → B → Type 0) (t : Bool) {x y : A} {u v : B} → (t ≡ true → P x u) → (t ≡ false → P y v) → P (cond t x y) (cond t u v)
+picked-both : {A B : Type 0} (P : A → B → Type 0) (t : Bool) {x y : A} {u v : B} → (t ≡ true → P x u) → (t ≡ false → P y v)
+    → P (cond t x y) (cond t u v)
 picked-both P true first second = first refl
 picked-both P false first second = second refl
 
@@ -135,7 +135,8 @@ module _ (s : Spans) (left right : Folded) (x : Row) where
   unfolding operatorOver treeOver seenIn kindOf
   seen-in-row long known =
       picked-both Agree (eqb (kind x) 0) (λ e. refl)
-      (λ n₀. picked-both Agree (eqb (kind x) 1) (λ e. sum-seen (chainOf x) ∙ ap (chainSeen 1 (length (trimmed 0 (chainOf x)) - 1)) (first-in-chain 0 x long))
+      (λ n₀. picked-both Agree (eqb (kind x) 1)
+      (λ e. sum-seen (chainOf x) ∙ ap (chainSeen 1 (length (trimmed 0 (chainOf x)) - 1)) (first-in-chain 0 x long))
       (λ n₁. picked-both Agree (eqb (kind x) 2)
       (λ e. product-seen (chainOf x)
       ∙ ap (λ c. cond (eqb c 0) (constantSeen 0) (chainSeen 2 (length (trimmed 1 (chainOf x)) - 1) c)) (first-in-chain 1 x long))
@@ -148,4 +149,5 @@ module _ (s : Spans) (left right : Folded) (x : Row) where
       least n₀ n₁ n₂ = omega arith
 
       operators : 3 ≤ kind x → seen (operatorOver (kind x) (wordB x) s left right) ≡ operatorSeen (kind x)
-      operators least = each-operator (λ k. seen (operatorOver k (wordB x) s left right) ≡ operatorSeen k) (kind x) least known refl refl refl refl refl refl
+      operators least =
+          each-operator (λ k. seen (operatorOver k (wordB x) s left right) ≡ operatorSeen k) (kind x) least known refl refl refl refl refl refl

@@ -15,8 +15,8 @@ refusing n = record { number = n; place = 0; reason = 0; first = 0; end = 0 }
 abbrev pub explaining : List ℕ → ℕ → ℕ → ReasonAnswer
 explaining p r n = record { number = 0; place = 0; reason = n; first = firstByte (row p r); end = endByte (row p r) }
 
--- "Refusals: 1 and 9 as for filling." Then "for each row of kinds 3 to 8, its span and one reason"; a row of kinds 0 to 2 has its span alone, and a row
--- that word 0 doesn't count nothing.
+-- "Refusals: 1 and 9 as for filling." Then "for each row of kinds 3 to 8, its span and one reason"; a row of kinds 0 to 2 has its span alone, and a
+-- row that word 0 doesn't count nothing.
 pub data Explaining (w : ℕ) (p : List ℕ) (r : ℕ) : ReasonAnswer → Type 0 where
   refused : (refusal p ≡ 0 → ⊥) → Explaining w p r (refusing (refusal p))
   not-counted : refusal p ≡ 0 → rowCount p ≤ r → Explaining w p r (refusing 0)

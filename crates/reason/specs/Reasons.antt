@@ -2,7 +2,6 @@
 -- Each is a relation under its own sentence of request Six. What 01's rules fold is cited from Folding.antt, and their numbers are in 02's order.
 use mathlib.Core.Path.{_≡_}
 use mathlib.Core.Bool.{Bool, true, false, not, _||_}
-use mathlib.Core.List.{List}
 use Prim.Native.Nat.{ℕ, _+_, _*_, _<_}
 use Rattle.formula.specs.Tree.{Span}
 use Rattle.fold.specs.Folded.{Spans, Folded, constant, sumChain, productChain, sumRow, differenceRow, productRow, minusRow, powerRow, raiseRow}
@@ -51,7 +50,8 @@ pub data OperandStays : Folded → Type 0 where
 
 -- ---- "lengths add over 16": those of two sum chains under *
 pub data LengthsAddOver : Folded → Type 0 where
-  of-chains : (s : Spans) (a b : Folded) → isSumChain a ≡ true → isSumChain b ≡ true → 16 < lengthOf a + lengthOf b → LengthsAddOver (productRow s a b)
+  of-chains : (s : Spans) (a b : Folded) → isSumChain a ≡ true → isSumChain b ≡ true → 16 < lengthOf a + lengthOf b
+      → LengthsAddOver (productRow s a b)
 
 -- ---- "length times n over 16": that of a sum chain under a literal power
 pub data LengthTimesOver : Folded → Type 0 where

@@ -1,6 +1,7 @@
 // Why a row of a plan is still there, for callers. Any words may be lent, and any row asked for.
-// What the reasons are, and that a row has exactly one, is in `reason`, their numbers are found in `reason_numbers`; whether a plan is sound is checked in `plan_sound`.
-pub mod operands;
+// What the reasons are, and that a row has exactly one, is in `reason`, their numbers are found in `reason_numbers`; whether a plan is sound is checked
+// in `plan_sound`.
+mod operands;
 
 use operands::seen;
 use plan::SPAN_START;
@@ -75,12 +76,14 @@ fn explained(row: &[u64], reason: u64) -> ReasonAnswer
     requires { ⌜ length (now row) ≡ rowLength ⌝ }
     ensures { λ a. ⌜ a ≡ record { number = 0; place = 0; reason = reason; first = firstByte (now (row .entry)); end = endByte (now (row .entry)) } ⌝ }
 {
+    let first = row[SPAN_START];
+    let end = row[SPAN_START + 1];
     ReasonAnswer {
         number: 0,
         place: 0,
         reason,
-        first: row[SPAN_START],
-        end: row[SPAN_START + 1],
+        first,
+        end,
     }
 }
 

@@ -4,7 +4,7 @@ use native.Mathlib.Omega.{arith}
 use lib.ListN.{getD}
 use borrow.Author.Needs.{needs}
 use Rattle.plan.proofs.SoundLaws.{sound-count}
-use Rattle.reason.proofs.Deciding.{sumNumber, productNumber, minusNumber, powerNumber, raiseNumber}
+use Rattle.reason.proofs.Numbers.{sumNumber, productNumber, minusNumber, powerNumber, raiseNumber}
 use Rattle.reason.proofs.SoundRows.{row-explained}
 use Rattle.reason_call.proofs.row_reason.Statement.{statement}
 use Rattle.reason_call.proofs.row_reason.Tie as tie

@@ -82,7 +82,10 @@ returns-5 c =
       ne-eqb (kind row) 1 (is-product .before .if2 .left),
       eq-eqb (kind row) 2 (is-product .if3 .left),
       ne-eqb (firstElement row) 0 (c .before .before .if4 .left),
-    ) ((c .chain4 .ensures .0) ∙ ap₂ (λ k n. chainSeen k n (firstElement row)) (is-product .if3 .left) (found .0), omega (arith, (c .chain4 .ensures .1), (found .1)))
+    ) (
+      (c .chain4 .ensures .0) ∙ ap₂ (λ k n. chainSeen k n (firstElement row)) (is-product .if3 .left) (found .0),
+      omega (arith, (c .chain4 .ensures .1), (found .1)),
+    )
 
 pub seen-spec : {M : Type 1} → statement M
 seen-spec =

@@ -1,6 +1,5 @@
 -- `trimmed_length` finds the last element that is not the unit. Invariant: without the elements past it the chain trims to the same.
 use mathlib.Core.Path.{_≡_, sym, ap, _∙_}
-use mathlib.Core.List.{List}
 use Prim.Native.Nat.{ℕ, _+_, _-_, _≤_, _<_}
 use native.Mathlib.Omega.{arith}
 use lib.ListN.{length, getD, take, drop, length-take, length-drop}
