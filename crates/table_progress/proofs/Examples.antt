@@ -19,7 +19,7 @@ use Rattle.fold.specs.Layout as Layout
 use Rattle.fold.proofs.Origins.{kindOf}
 use Rattle.reason.specs.RowTrees.{operatorOver, treeOver, trees}
 use Rattle.reason.specs.Wording.{reasonText}
-use Rattle.reason.proofs.Deciding.{sumNumber, chainSumNumber, productNumber, chainProductNumber, minusNumber, powerNumber, raiseNumber, reasonOf}
+use Rattle.reason.proofs.Numbers.{sumFolds, productFolds, powerFolds, joinedNumber, sumNumber, productNumber, minusNumber, powerNumber, raiseNumber, reasonOf}
 use Rattle.table.specs.Decimal.{lastDigits}
 use Rattle.table.specs.NumberField.{allDigits, isNumber, numberUpTo}
 use Rattle.table.specs.declared.JobLine.{JobLine}
@@ -55,7 +55,7 @@ unfolding digitsFrom count allDigits isNumber numberUpTo before after afterTabs 
 judgesLine l defaults = judgedJob l defaults
 
 unfoldable pub decides : Folded → ℕ
-unfolding sumNumber chainSumNumber productNumber chainProductNumber minusNumber powerNumber raiseNumber reasonOf
+unfolding sumFolds productFolds powerFolds joinedNumber sumNumber productNumber minusNumber powerNumber raiseNumber reasonOf
 decides t = reasonOf t
 
 unfoldable pub explains : List ℕ → List ℕ → ℕ → List ℕ

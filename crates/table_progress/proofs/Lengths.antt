@@ -26,7 +26,7 @@ use Rattle.fold.proofs.FoldShape.{accepted-rows}
 use Rattle.fold.proofs.Rules.{picked as picks}
 use Rattle.reason.specs.RowTrees.{rowTree}
 use Rattle.reason.specs.Wording.{reasonTexts, reasonText}
-use Rattle.reason.proofs.Deciding.{reasonOf}
+use Rattle.reason.proofs.Numbers.{reasonOf}
 use Rattle.table.specs.Decimal.{decimal}
 use Rattle.table.proofs.Digits.{word-digits}
 use Rattle.table.specs.Parts.{tab, lineFeed}

@@ -17,7 +17,7 @@ use Rattle.plan.proofs.SpanLaws.{sound-span}
 use Rattle.reason.specs.RowTrees.{rowTree}
 use Rattle.fold.specs.Folded.{Folded}
 use Rattle.reason.specs.Reasons.{operand-stays, lengths-add, length-times, against-product, two-products, exponent-neither, Reason, would-fold, stays}
-use Rattle.reason.proofs.Deciding.{reasonOf}
+use Rattle.reason.proofs.Numbers.{reasonOf}
 use Rattle.reason.proofs.OneReason.{one-reason}
 use Rattle.reason.proofs.SoundRows.{row-has-reason, rowReason}
 use Rattle.table_fields.specs.Writing.{Wrote}

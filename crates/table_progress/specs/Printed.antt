@@ -10,7 +10,7 @@ use Rattle.plan.specs.Row.{kind, endByte}
 use Rattle.plan.specs.Plan.{rowCount, row, cost}
 use Rattle.plan.specs.Filling.{planAfter, pointValues}
 use Rattle.reason.specs.RowTrees.{rowTree}
-use Rattle.reason.proofs.Deciding.{reasonOf}
+use Rattle.reason.proofs.Numbers.{reasonOf}
 use Rattle.table_fields.specs.Writing.{Wrote}
 use Rattle.table.specs.Parts.{picked}
 use Rattle.table.specs.Judged.{judgedJob}
