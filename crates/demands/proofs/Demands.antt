@@ -86,6 +86,7 @@ use Rattle.probe.specs.declared.Verdict.the-variants.{NoVerdict}
 use Rattle.probe.specs.Probe as ProbeSpec
 use Rattle.probe.specs.Probe.{offset, verdict, verdictWord, ahead, behind, within, unset, probeAnswer}
 use Rattle.probe.proofs.Laws as Probe
+use Rattle.table.specs.declared.Tool.{Tool}
 use Rattle.table.specs.Parts.{lineFeed}
 use Rattle.table.specs.Run.{RunPrints}
 use Rattle.table_progress.specs.declared.Progress.{Progress}
@@ -104,29 +105,32 @@ use Rattle.demands.proofs.Bridges as Bridges
 -- ======== Demand 1: "Formulas, job lines, plans and lent tables may hold anything at all. The library answers or refuses, with the number and
 -- place that document 01 fixes, at the first check that applies. A refused call changes nothing it was lent."
 -- ---- job files
--- Whatever bytes a job file holds, `RunPrints` says what it prints, by 01's sentences alone: every input has an output, and no second one.
-pub job-file-output : (input : List ℕ) → (output : List ℕ) × RunPrints input output
-job-file-output input = (run input, run-prints input)
+-- Whatever bytes a job file holds, `RunPrints` says what each tool prints of it, the table printer by 01's sentences alone, the row explainer of request Six by
+-- these and 02's: every input has an output, and no second one.
+pub job-file-output : (tool : Tool) (input : List ℕ) → (output : List ℕ) × RunPrints tool input output
+job-file-output tool input = (run tool input, run-prints tool input)
 
-pub job-file-unique : (input : List ℕ) {output output′ : List ℕ} → RunPrints input output → RunPrints input output′ → output ≡ output′
-job-file-unique input A B = both-are (run-only input A) (run-only input B)
+pub job-file-unique : (tool : Tool) (input : List ℕ) {output output′ : List ℕ} → RunPrints tool input output → RunPrints tool input output′ → output ≡ output′
+job-file-unique tool input A B = both-are (run-only tool input A) (run-only tool input B)
 
 -- All that accepted calls write over it, however it is cut, is that.
-pub job-file-prints : {line defaults input output : List ℕ} → Runs started line defaults input output → RunPrints input output
-job-file-prints {input = input} runs = subst (RunPrints input) (sym (adds-up runs)) (run-prints input)
+pub job-file-prints : {tool : Tool} {line defaults input output : List ℕ} → Runs tool started line defaults input output → RunPrints tool input output
+job-file-prints {tool} {input = input} runs = subst (RunPrints tool input) (sym (adds-up runs)) (run-prints tool input)
 
 -- With buffers that are long enough, calls over it come to its end, and have then written that.
-pub job-file-runs : {plan table out : List ℕ} → Roomy plan table out → (line defaults input : List ℕ)
+pub job-file-runs : (tool : Tool) {plan table out : List ℕ} → Roomy plan table out → (line defaults input : List ℕ)
     → 4097 ≤ length line → 4096 ≤ length defaults → count lineFeed input < 2 ^ 64 - 1
-    → (output : List ℕ) × RunPrints input output × Runs started line defaults input output
-job-file-runs roomy line defaults input h k few = (run input, run-prints input, every-input-runs roomy line defaults input h k few)
+    → (output : List ℕ) × RunPrints tool input output × Runs tool started line defaults input output
+job-file-runs tool roomy line defaults input h k few =
+    (run tool input, run-prints tool input, every-input-runs tool roomy line defaults input h k few)
 
 -- "A refused call changes nothing it was lent": a step, and the end of the input, that are not done.
-pub refused-step-keeps : (p : Progress) (input : List ℕ) (b : Buffers) → stepped p input b .answer .ok ≡ false → stepped p input b .buffers ≡ b
-refused-step-keeps p input b undone = ap (λ o. o .buffers) (step-undone p input b undone)
+pub refused-step-keeps : (tool : Tool) (p : Progress) (input : List ℕ) (b : Buffers) → stepped tool p input b .answer .ok ≡ false
+    → stepped tool p input b .buffers ≡ b
+refused-step-keeps tool p input b undone = ap (λ o. o .buffers) (step-undone tool p input b undone)
 
-pub refused-end-keeps : (p : Progress) (b : Buffers) → finished p b .answer .ok ≡ false → finished p b .buffers ≡ b
-refused-end-keeps p b undone = ap (λ o. o .buffers) (end-undone p b undone)
+pub refused-end-keeps : (tool : Tool) (p : Progress) (b : Buffers) → finished tool p b .answer .ok ≡ false → finished tool p b .buffers ≡ b
+refused-end-keeps tool p b undone = ap (λ o. o .buffers) (end-undone tool p b undone)
 
 -- ---- compile
 -- Whatever the text, the grid and the lent plan hold, there is an answer.
@@ -833,13 +837,13 @@ probe-unique = Probe.probe-unique
 pub start-unique : (r r′ : Progress) → r ≡ started → r′ ≡ started → r ≡ r′
 start-unique r r′ = both-are
 
-pub step-unique : (p : Progress) (input : List ℕ) (b : Buffers) {r r′ : Stepped} {after after′ : Buffers}
-    → record { answer = r; buffers = after } ≡ stepped p input b → record { answer = r′; buffers = after′ } ≡ stepped p input b
+pub step-unique : (tool : Tool) (p : Progress) (input : List ℕ) (b : Buffers) {r r′ : Stepped} {after after′ : Buffers}
+    → record { answer = r; buffers = after } ≡ stepped tool p input b → record { answer = r′; buffers = after′ } ≡ stepped tool p input b
     → (r ≡ r′) × (after ≡ after′)
 step-unique = StepPromises.step-unique
 
-pub finish-unique : (p : Progress) (b : Buffers) {r r′ : Stepped} {after after′ : Buffers}
-    → record { answer = r; buffers = after } ≡ finished p b → record { answer = r′; buffers = after′ } ≡ finished p b
+pub finish-unique : (tool : Tool) (p : Progress) (b : Buffers) {r r′ : Stepped} {after after′ : Buffers}
+    → record { answer = r; buffers = after } ≡ finished tool p b → record { answer = r′; buffers = after′ } ≡ finished tool p b
     → (r ≡ r′) × (after ≡ after′)
 finish-unique = StepPromises.finish-unique
 
