@@ -89,6 +89,7 @@ extern "C" {
 #define OTTERCHIME_FILL_ERAS_ANSWER 5
 #define OTTERCHIME_COST_ANSWER 3
 #define OTTERCHIME_SOUND_ANSWER 2
+#define OTTERCHIME_REASON_ANSWER 5
 #define OTTERCHIME_CHAIN_ANSWER 20
 #define OTTERCHIME_SHIFT_ANSWER 21
 #define OTTERCHIME_VALUE_ANSWER 3
@@ -100,6 +101,16 @@ extern "C" {
 #define OTTERCHIME_AHEAD 2
 #define OTTERCHIME_BEHIND 3
 #define OTTERCHIME_UNSET 4
+
+/* Why a row of kinds 3 to 8 is still there, and is not folded into a chain or a constant. */
+#define OTTERCHIME_NO_REASON 0                     /* a row of kinds 0 to 2, no row, or a refused call */
+#define OTTERCHIME_OPERAND_IS_OPERATOR 1           /* an operand is itself of kinds 3 to 8 (not for raise) */
+#define OTTERCHIME_LENGTHS_ADD_OVER_16 2           /* lengths add over 16 */
+#define OTTERCHIME_LENGTH_TIMES_N_OVER_16 3        /* length times n over 16 */
+#define OTTERCHIME_SUM_AGAINST_PRODUCT 4           /* sum chain or constant against product chain */
+#define OTTERCHIME_TWO_PRODUCT_CHAINS 5            /* two product chains under + or - */
+#define OTTERCHIME_EXPONENT_NO_SUM 6               /* exponent of a raise neither constant nor sum chain */
+#define OTTERCHIME_WOULD_HAVE_FOLDED 7             /* the rules would have folded it: never so in a compiled plan */
 
 /* ---- plans ---- */
 
@@ -130,9 +141,16 @@ void otterchime_fill_eras(uint64_t *plan, size_t plan_length, uint64_t *table, s
  * answer: number, place, the cost (0 if refused). Refusals 1 and 9. */
 void otterchime_cost(const uint64_t *plan, size_t plan_length, uint64_t answer[OTTERCHIME_COST_ANSWER]);
 
-/* Whether a plan is sound (see OTTERCHIME_PLAN_WORDS), so that fill and cost accept it.
+/* Whether a plan is sound (see OTTERCHIME_PLAN_WORDS), so that fill, cost and reason accept it.
  * answer: number, place. Refusals 1 and 9. */
 void otterchime_sound(const uint64_t *plan, size_t plan_length, uint64_t answer[OTTERCHIME_SOUND_ANSWER]);
+
+/* Why a row of a plan, counted from 0, is still there. Any word may be asked for. Each row of kinds 3 to 8 of a sound plan has exactly one of the
+ * seven reasons. They speak of its operands with chains trimmed, so that a product chain with first element 0 is a constant, and with other
+ * operands as they stand. The last reason is judged first: it is given exactly where folding has a rule for such operands.
+ * answer: number, place, the reason (OTTERCHIME_LENGTHS_ADD_OVER_16, ..), first byte and end byte of the row's text. A row of kinds 0 to 2 has no
+ * reason, 0, and its bytes; a row that word 0 doesn't count has 0 for all three. Refusals 1 and 9, with 0 for all three. */
+void otterchime_reason(const uint64_t *plan, size_t plan_length, uint64_t row, uint64_t answer[OTTERCHIME_REASON_ANSWER]);
 
 /* ---- sum chains ----
  * A chain is given as 17 words and its length. Words past the length are not read, but the 17 words must be there. Chains are trimmed of

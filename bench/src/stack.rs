@@ -73,9 +73,9 @@ fn coefficients(stack: &mut Stack) -> usize {
     (0..=18).map(&mut depth).max().unwrap_or(0)
 }
 
-/// Compiling, cost, soundness and both fillings, over the same texts, and compiling without the reader's brackets.
-fn formulas(stack: &mut Stack) -> [usize; 6] {
-    let mut deepest = [0; 6];
+/// Compiling, cost, soundness, the reasons of all rows and both fillings, over the same texts, and compiling without the reader's brackets.
+fn formulas(stack: &mut Stack) -> [usize; 7] {
+    let mut deepest = [0; 7];
     for mut text in texts::deep() {
         let (mut plan, mut table, mut answer) = (vec![0u64; PLAN_WORDS], vec![0u64; 64], [0u64; 5]);
         let (start, lent, room) = (plan.as_mut_ptr() as u64, plan.len() as u64, table.len() as u64);
@@ -85,12 +85,15 @@ fn formulas(stack: &mut Stack) -> [usize; 6] {
         let read = [start, lent, answered, 0, 0, 0, 0];
         let bracket = text.contains('(');
         let compiled = unsafe { stack.depth(raw::otterchime_compile as *const (), compile) };
+        let mut reason = |row| unsafe { stack.depth(raw::otterchime_reason as *const (), [start, lent, row, answered, 0, 0, 0]) };
+        let explained = (0..=plan[0]).map(&mut reason).max().unwrap_or(0);
         let depths = unsafe {
             [
                 compiled,
                 if bracket { 0 } else { compiled },
                 stack.depth(raw::otterchime_cost as *const (), read),
                 stack.depth(raw::otterchime_sound as *const (), read),
+                explained,
                 stack.depth(raw::otterchime_fill as *const (), fill),
                 stack.depth(raw::otterchime_fill_eras as *const (), fill),
             ]
@@ -112,7 +115,7 @@ fn probe(stack: &mut Stack) -> usize {
 pub fn print() {
     let mut stack = Stack::new();
     println!("{:<44}{:>12}", "bytes of stack, the deepest call", "library");
-    let [compile, flat, cost, sound, fill, fill_eras] = formulas(&mut stack);
+    let [compile, flat, cost, sound, reason, fill, fill_eras] = formulas(&mut stack);
     let coefficients = coefficients(&mut stack);
     let probe = probe(&mut stack);
     let mut chain = |function, two| chains(&mut stack, function, two);
@@ -123,6 +126,7 @@ pub fn print() {
         ("fill_eras", fill_eras),
         ("cost", cost),
         ("sound", sound),
+        ("reason", reason),
         ("trim", chain(raw::otterchime_trim as *const (), false)),
         ("shift", chain(raw::otterchime_shift as *const (), false)),
         ("value", chain(raw::otterchime_value as *const (), false)),

@@ -26,6 +26,8 @@ mod plans;
 mod raw;
 #[cfg(otterchime_linked)]
 mod readings;
+#[cfg(otterchime_linked)]
+mod reasons;
 mod refusal;
 #[cfg(otterchime_linked)]
 mod rows;
@@ -40,6 +42,8 @@ pub use chains::{difference, from_coefficients, product, shift, sum, trim, value
 pub use plans::{compile, cost, fill, fill_eras, sound, Filled, FilledEras, Plan};
 #[cfg(otterchime_linked)]
 pub use readings::{probe, Probed, Verdict};
+#[cfg(otterchime_linked)]
+pub use reasons::{reason, Explained, Reason};
 pub use refusal::Refusal;
 #[cfg(otterchime_linked)]
 pub use rows::{Row, RowKind};

@@ -1,5 +1,5 @@
 //! Compiling a formula, and filling a table by its plan: over lent words, and with a plan of one's own.
-use crate::{raw, rows, Refusal, Row, PLAN_WORDS};
+use crate::{raw, reasons, rows, Reason, Refusal, Row, PLAN_WORDS};
 
 /// What an accepted fill did.
 #[derive(Clone, Copy, Debug, PartialEq, Eq)]
@@ -53,7 +53,7 @@ pub fn cost(plan: &[u64]) -> Result<u64, Refusal> {
     Refusal::of(number, place).map(|()| cost)
 }
 
-/// Whether a plan is sound, so that `fill` and `cost` accept it.
+/// Whether a plan is sound, so that `fill`, `cost` and `reason` accept it.
 pub fn sound(plan: &[u64]) -> Result<(), Refusal> {
     let mut answer = [0; 2];
     // SAFETY: as in `compile`.
@@ -87,6 +87,11 @@ impl Plan {
     /// The rows, left operand first and root last; `rows().len()` is how many there are.
     pub fn rows(&self) -> impl ExactSizeIterator<Item = Row<'_>> {
         rows::rows(&self.0)
+    }
+
+    /// Why a row, counted from 0, is still there; none of a constant or a chain, and of a row that the plan doesn't have.
+    pub fn reason(&self, row: usize) -> Option<Reason> {
+        reasons::reason(&self.0, row as u64).expect("a compiled plan is sound").reason
     }
 
     pub fn words(&self) -> &[u64] {

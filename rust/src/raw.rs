@@ -15,6 +15,7 @@ extern "C" {
     pub fn otterchime_fill_eras(plan: *mut u64, plan_length: usize, table: *mut u64, table_length: usize, budget: u64, answer: *mut [u64; 5]);
     pub fn otterchime_cost(plan: *const u64, plan_length: usize, answer: *mut [u64; 3]);
     pub fn otterchime_sound(plan: *const u64, plan_length: usize, answer: *mut [u64; 2]);
+    pub fn otterchime_reason(plan: *const u64, plan_length: usize, row: u64, answer: *mut [u64; 5]);
     pub fn otterchime_trim(f: *const Words, k: u64, answer: *mut ChainAnswer);
     pub fn otterchime_shift(f: *const Words, k: u64, answer: *mut ShiftAnswer);
     pub fn otterchime_value(f: *const Words, k: u64, answer: *mut [u64; 3]);

@@ -49,7 +49,7 @@ use Rattle.fold.proofs.Compiled as Compiled
 use Rattle.fold.specs.OneChain.{OneSum, SameChain}
 use Rattle.fold.specs.declared.CompileAnswer.{CompileAnswer}
 use Rattle.fold.specs.Compiling.{Compiling, too-short, refused, accepted}
-use Rattle.plan.specs.Row.{firstByte, endByte, between, allZero}
+use Rattle.plan.specs.Row.{kind, firstByte, endByte, between, allZero}
 use Rattle.plan.specs.Plan as Plan
 use Rattle.plan.specs.Plan.{refusal}
 use Rattle.plan.specs.Points.{rootValue}
@@ -61,6 +61,13 @@ use Rattle.plan.proofs.Keeping.{cost-after, refusal-after}
 use Rattle.plan.proofs.Accepting.{fill-accepted, refused-alters-nothing}
 use Rattle.plan.proofs.Sharing.{after-add, length-points, point-at, shared}
 use Rattle.plan.specs.Calls.{Call, written, planLeft, pointsOf}
+use Rattle.reason.specs.declared.ReasonAnswer.{ReasonAnswer}
+use Rattle.reason.specs.RowTrees.{rowTree}
+use Rattle.reason.specs.Reasons.{Stays, Reason}
+use Rattle.reason.specs.Explaining as Explaining
+use Rattle.reason.specs.Explaining.{refusing, explaining, Explaining, not-counted, no-operator, operator}
+use Rattle.reason.proofs.Answers.{explaining-unique, answer-refused}
+use Rattle.reason.proofs.CompiledRows as CompiledRows
 
 -- ---- compile: every input has an answer
 answer-to : (s : List ℕ) (start step : ℕ) (lent : List ℕ) (v : Verdict) → Right s v → planLength ≤ length lent
@@ -413,6 +420,24 @@ other-rows p sound r j past few here =
     place : rowStart r + j ≡ rowStart (Plan.rowCount p) + behind
     place = omega arith
 
+-- ---- why a row is still there
+module _ {p : List ℕ} {r : ℕ} where
+  pub reason-number : {a : ReasonAnswer} → Explaining 64 p r a → a .number ≡ refusal p
+  reason-number (Explaining.refused other) = refl
+  reason-number (not-counted good past) = sym good
+  reason-number (no-operator good within few) = sym good
+  reason-number (operator good within least reason) = sym good
+
+  pub reason-refused : {a : ReasonAnswer} {n : ℕ} → Explaining 64 p r a → refusal p ≡ n → (n ≡ 0 → ⊥) → a ≡ refusing n
+  reason-refused call e some = explaining-unique 64 p r call (answer-refused 64 p r (sym e) some)
+
+  pub reason-given : {a : ReasonAnswer} → Explaining 64 p r a → refusal p ≡ 0 → r < Plan.rowCount p → 3 ≤ kind (Plan.row p r)
+      → (a ≡ explaining p r (a .reason)) × Reason 64 (rowTree p r) (a .reason)
+  reason-given (Explaining.refused other) sound here operates = absurd (other sound)
+  reason-given (not-counted good past) sound here operates = absurd (omega arith)
+  reason-given (no-operator good within few) sound here operates = absurd (omega arith)
+  reason-given (operator good within least reason) sound here operates = (refl, reason)
+
 module _ {s : List ℕ} {start step : ℕ} {lent : List ℕ} {r : CompileAnswer} {q : List ℕ} (call : Compiling 64 s start step lent r q)
     (nought : r .number ≡ 0) where
   -- What holds of the plan of every accepted formula holds of the one that is left.
@@ -437,7 +462,25 @@ module _ {s : List ℕ} {start step : ℕ} {lent : List ℕ} {r : CompileAnswer}
       as-compiled (λ p. (i : ℕ) → i < Plan.rowCount p → endByte (Plan.row p i) ≤ length s)
       (λ t A. Compiled.compiled-within 64 start step (omega arith) A (drop planLength lent))
 
+  pub its-stays : (i : ℕ) → i < Plan.rowCount q → Stays 64 (rowTree q i)
+  its-stays =
+      as-compiled (λ p. (i : ℕ) → i < Plan.rowCount p → Stays 64 (rowTree p i))
+      (λ t A. CompiledRows.compiled-stays 64 start step (omega arith) A (drop planLength lent))
+
+  pub its-reason : (i : ℕ) {a : ReasonAnswer} → Explaining 64 q i a → (a .number ≡ 0) × (a .reason ≡ 7 → ⊥)
+  its-reason i {a} explained =
+      let (_, A) = some-tree call nought in (
+        reason-number explained ∙ its-refusal call nought (A .means),
+        as-compiled (λ p. Explaining 64 p i a → a .reason ≡ 7 → ⊥)
+            (λ t A. CompiledRows.compiled-explained 64 start step (omega arith) A (drop planLength lent) i) explained,
+      )
+
   module _ {t : Tree} (means : Formula s t) where
+    pub its-tree : rowTree q (Plan.rowCount q - 1) ≡ fold 64 start step t
+    its-tree =
+        subst (λ p. rowTree p (Plan.rowCount p - 1) ≡ fold 64 start step t) (sym (leaves call nought means))
+        (CompiledRows.compiled-tree 64 start step (omega arith) (allows call nought means) (drop planLength lent))
+
     pub its-root : (firstByte (rootRow q) ≡ first (spanOf t)) × (endByte (rootRow q) ≡ end (spanOf t))
     its-root =
         let folded = fold 64 start step t in

@@ -1,5 +1,5 @@
 -- The three demands as theorems about the contracts of the public calls alone, each under the sentence that it renders; then, for each call,
--- that any two answers which meet its contract are equal. The contracts are `Compiling` of fold; `Reading` of formula; `fill`, `fillEras`, `costAnswer`,
+-- that any two answers which meet its contract are equal. The contracts are `Compiling` of fold; `Explaining` of reason; `Reading` of formula; `fill`, `fillEras`, `costAnswer`,
 -- `soundAnswer` and `refusal` of plan; `answered` of an outcome, `shiftAnswer` and `valueAnswer` of chain; `probeAnswer` of probe; `started`, `stepped` and
 -- `finished` of table_progress; `product`, `power` and `signed` of word. Words have 64 bits. What document 02 asks for stands behind the demands. Bridges.antt has the longer steps.
 use mathlib.Core.Path.{_≡_, refl, sym, ap, subst, _∙_}
@@ -53,7 +53,7 @@ use Rattle.plan.specs.declared.FillErasAnswer.{FillErasAnswer}
 use Rattle.plan.specs.declared.CostAnswer.{CostAnswer}
 use Rattle.plan.specs.declared.SoundAnswer.{SoundAnswer}
 use Rattle.plan.specs.Plan as Plan
-use Rattle.plan.specs.Row.{Row, firstElement, firstByte, endByte}
+use Rattle.plan.specs.Row.{Row, kind, wordA, wordB, firstElement, firstByte, endByte}
 use Rattle.plan.specs.Points.{rootValue}
 use Rattle.plan.specs.Filling.{pointCost, pointsFor, planAfter, filled, fillRefused, fill, costAnswer, soundAnswer}
 use Rattle.plan.proofs.RowLaws as Rows
@@ -63,6 +63,7 @@ use Rattle.plan.proofs.Sharing as Sharing
 use Rattle.plan.specs.Eras.{rootRow, erasOver, position, AreWords, constantOrSum, erasRefusal, withSum, fillEras, sumOf}
 use Rattle.plan.proofs.EraLaws as Eras
 use Rattle.plan.specs.Calls.{Call, planLeft, pointsOf, written}
+use Rattle.fold.specs.Folded.{constant}
 use Rattle.fold.specs.Folding.{fold}
 use Rattle.fold.specs.Layout.{planWords}
 use Rattle.fold.proofs.Compiled as Compiled
@@ -72,11 +73,20 @@ use Rattle.fold.specs.declared.CompileAnswer.{CompileAnswer}
 use Rattle.fold.specs.Compiling.{Compiling, too-short, refused, accepted}
 use Rattle.fold.proofs.Promise as Promise
 use Rattle.fold.proofs.Promise.{compiling-unique}
+use Rattle.reason.specs.declared.ReasonAnswer.{ReasonAnswer}
+use Rattle.reason.specs.RowTrees.{operandSpans, operatorOver, rowTree}
+use Rattle.reason.specs.Reasons.{Stays, Folds, Named, Reason, would-fold}
+use Rattle.reason.specs.Explaining.{refusing, explaining, Explaining, not-counted, no-operator}
+use Rattle.reason.proofs.OneReason as OneReason
+use Rattle.reason.proofs.TreeLaws as RowTrees
+use Rattle.reason.proofs.SoundRows as SoundRows
+use Rattle.reason.proofs.Answers as Reasons
 use Rattle.probe.specs.declared.ProbeAnswer.{ProbeAnswer}
 use Rattle.probe.specs.declared.Verdict.the-variants.{NoVerdict}
 use Rattle.probe.specs.Probe as ProbeSpec
 use Rattle.probe.specs.Probe.{offset, verdict, verdictWord, ahead, behind, within, unset, probeAnswer}
 use Rattle.probe.proofs.Laws as Probe
+use Rattle.table.specs.declared.Tool.{Tool}
 use Rattle.table.specs.Parts.{lineFeed}
 use Rattle.table.specs.Run.{RunPrints}
 use Rattle.table_progress.specs.declared.Progress.{Progress}
@@ -95,29 +105,32 @@ use Rattle.demands.proofs.Bridges as Bridges
 -- ======== Demand 1: "Formulas, job lines, plans and lent tables may hold anything at all. The library answers or refuses, with the number and
 -- place that document 01 fixes, at the first check that applies. A refused call changes nothing it was lent."
 -- ---- job files
--- Whatever bytes a job file holds, `RunPrints` says what it prints, by 01's sentences alone: every input has an output, and no second one.
-pub job-file-output : (input : List ℕ) → (output : List ℕ) × RunPrints input output
-job-file-output input = (run input, run-prints input)
+-- Whatever bytes a job file holds, `RunPrints` says what each tool prints of it, the table printer by 01's sentences alone, the row explainer of request Six by
+-- these and 02's: every input has an output, and no second one.
+pub job-file-output : (tool : Tool) (input : List ℕ) → (output : List ℕ) × RunPrints tool input output
+job-file-output tool input = (run tool input, run-prints tool input)
 
-pub job-file-unique : (input : List ℕ) {output output′ : List ℕ} → RunPrints input output → RunPrints input output′ → output ≡ output′
-job-file-unique input A B = both-are (run-only input A) (run-only input B)
+pub job-file-unique : (tool : Tool) (input : List ℕ) {output output′ : List ℕ} → RunPrints tool input output → RunPrints tool input output′ → output ≡ output′
+job-file-unique tool input A B = both-are (run-only tool input A) (run-only tool input B)
 
 -- All that accepted calls write over it, however it is cut, is that.
-pub job-file-prints : {line defaults input output : List ℕ} → Runs started line defaults input output → RunPrints input output
-job-file-prints {input = input} runs = subst (RunPrints input) (sym (adds-up runs)) (run-prints input)
+pub job-file-prints : {tool : Tool} {line defaults input output : List ℕ} → Runs tool started line defaults input output → RunPrints tool input output
+job-file-prints {tool} {input = input} runs = subst (RunPrints tool input) (sym (adds-up runs)) (run-prints tool input)
 
 -- With buffers that are long enough, calls over it come to its end, and have then written that.
-pub job-file-runs : {plan table out : List ℕ} → Roomy plan table out → (line defaults input : List ℕ)
+pub job-file-runs : (tool : Tool) {plan table out : List ℕ} → Roomy plan table out → (line defaults input : List ℕ)
     → 4097 ≤ length line → 4096 ≤ length defaults → count lineFeed input < 2 ^ 64 - 1
-    → (output : List ℕ) × RunPrints input output × Runs started line defaults input output
-job-file-runs roomy line defaults input h k few = (run input, run-prints input, every-input-runs roomy line defaults input h k few)
+    → (output : List ℕ) × RunPrints tool input output × Runs tool started line defaults input output
+job-file-runs tool roomy line defaults input h k few =
+    (run tool input, run-prints tool input, every-input-runs tool roomy line defaults input h k few)
 
 -- "A refused call changes nothing it was lent": a step, and the end of the input, that are not done.
-pub refused-step-keeps : (p : Progress) (input : List ℕ) (b : Buffers) → stepped p input b .answer .ok ≡ false → stepped p input b .buffers ≡ b
-refused-step-keeps p input b undone = ap (λ o. o .buffers) (step-undone p input b undone)
+pub refused-step-keeps : (tool : Tool) (p : Progress) (input : List ℕ) (b : Buffers) → stepped tool p input b .answer .ok ≡ false
+    → stepped tool p input b .buffers ≡ b
+refused-step-keeps tool p input b undone = ap (λ o. o .buffers) (step-undone tool p input b undone)
 
-pub refused-end-keeps : (p : Progress) (b : Buffers) → finished p b .answer .ok ≡ false → finished p b .buffers ≡ b
-refused-end-keeps p b undone = ap (λ o. o .buffers) (end-undone p b undone)
+pub refused-end-keeps : (tool : Tool) (p : Progress) (b : Buffers) → finished tool p b .answer .ok ≡ false → finished tool p b .buffers ≡ b
+refused-end-keeps tool p b undone = ap (λ o. o .buffers) (end-undone tool p b undone)
 
 -- ---- compile
 -- Whatever the text, the grid and the lent plan hold, there is an answer.
@@ -663,6 +676,83 @@ pub grid-free : {s : List ℕ} {start step start′ step′ : ℕ} {lent : List 
     → Compiling 64 s start step lent r q → Compiling 64 s start′ step′ lent r′ q′ → r ≡ r′
 grid-free = Promise.grid-free
 
+-- ======== Request Six of document 02: "The library shall give .. for each row of kinds 3 to 8, its span and one reason". `Explaining` is what the call answers;
+-- `rowTree` is a row as 01's rules see it, "its chain operands trimmed and its other operands as they stand"; `Reason` is the list, numbered in 02's order.
+-- Whatever plan and row number are given, there is an answer.
+pub reason-answers : (p : List ℕ) (r : ℕ) → (a : ReasonAnswer) × Explaining 64 p r a
+reason-answers p r = (Reasons.explained p r, Reasons.is-explained 64 p r)
+
+module _ {p : List ℕ} {r : ℕ} {a : ReasonAnswer} (call : Explaining 64 p r a) where
+  -- "Refusals: 1 and 9 as for filling." `refusing` has 0 for place, reason and span.
+  pub reason-short : length p < planLength → a ≡ refusing 1
+  reason-short short = Bridges.reason-refused call (rw (lt-ltb (length p) planLength short)) (λ z. omega (arith, z))
+
+  pub reason-unsound : planLength ≤ length p → Plan.sound p ≡ false → a ≡ refusing 9
+  reason-unsound whole unsound = Bridges.reason-refused call (rw (le-ltb (length p) planLength whole, unsound)) (λ z. omega (arith, z))
+
+  pub reason-as-fill : (table : List ℕ) (budget : ℕ) → a .number ≡ fill 64 p table budget .answer .number
+  reason-as-fill table budget = Bridges.reason-number call ∙ sym (Bridges.fill-number p table budget)
+
+  module _ (whole : planLength ≤ length p) (sound : Plan.sound p ≡ true) where
+    good : Plan.refusal p ≡ 0
+    good = rw (le-ltb (length p) planLength whole, sound)
+
+    -- A row that word 0 doesn't count has nothing, and a row of kinds 0 to 2 its span.
+    pub reason-not-counted : Plan.rowCount p ≤ r → a ≡ refusing 0
+    reason-not-counted past = Reasons.explaining-unique 64 p r call (not-counted good past)
+
+    pub reason-of-chain : r < Plan.rowCount p → kind (Plan.row p r) < 3 → a ≡ explaining p r 0
+    reason-of-chain here few = Reasons.explaining-unique 64 p r call (no-operator good here few)
+
+    module _ (here : r < Plan.rowCount p) (operator : 3 ≤ kind (Plan.row p r)) where
+      -- "Every such row is proved to have exactly one reason on the list, the one shown", with its span; the list has seven.
+      pub reason-shown : (a ≡ explaining p r (a .reason)) × Reason 64 (rowTree p r) (a .reason)
+          × ((n : ℕ) → Reason 64 (rowTree p r) n → n ≡ a .reason) × (1 ≤ a .reason) × (a .reason ≤ 7)
+      reason-shown =
+          let (spanned, reason) = Bridges.reason-given call good here operator in
+          let (least, most) = OneReason.reason-known reason in
+          (spanned, reason, λ n other. OneReason.one-reason other reason, least, most)
+
+      -- "The last is judged first, and given exactly when the rules in 01 fold that row".
+      pub reason-folds : (a .reason ≡ 7) ↔ Folds 64 (rowTree p r)
+      reason-folds = (OneReason.only-folding (reason-shown .1), λ folds. sym (reason-shown .2 7 (would-fold folds)))
+
+      -- "The other reasons speak only of rows that 01 doesn't fold". `Named` has each of the six by its own sentence.
+      pub reason-stays : (a .reason ≡ 7 → ⊥) → Stays 64 (rowTree p r) × Named (rowTree p r) (a .reason)
+      reason-stays = OneReason.only-named (reason-shown .1)
+
+-- The same of the row alone, without the call.
+pub exactly-one-reason : (p : List ℕ) → planLength ≤ length p → Plan.sound p ≡ true → (r : ℕ) → r < Plan.rowCount p → 3 ≤ kind (Plan.row p r)
+    → (n : ℕ) × Reason 64 (rowTree p r) n × ((m : ℕ) → Reason 64 (rowTree p r) m → m ≡ n)
+exactly-one-reason p whole sound r here operator =
+    let (a, call) = reason-answers p r in
+    let (_, reason, only, _, _) = reason-shown call whole sound here operator in
+    (a .reason, reason, only)
+
+-- "its chain operands trimmed and its other operands as they stand": they are the rows that it names, each as the rules see it.
+pub operands-seen : (p : List ℕ) → planLength ≤ length p → Plan.sound p ≡ true → (r : ℕ) → r < Plan.rowCount p → 3 ≤ kind (Plan.row p r)
+    → let x = Plan.row p r in
+    rowTree p r ≡ operatorOver (kind x) (wordB x) (operandSpans p x) (rowTree p (wordA x)) (rowTree p (wordB x))
+operands-seen = SoundRows.tree-over-rows
+
+-- "so a product chain with first element 0 counts as a constant".
+pub zero-product : (p : List ℕ) (r : ℕ) → planLength ≤ length p → r < 128 → kind (Plan.row p r) ≡ 2 → firstElement (Plan.row p r) ≡ 0
+    → rowTree p r ≡ constant 0
+zero-product p r whole few = RowTrees.zero-tree _ _ _ (Plan.row p r) (Rows.length-row p r few whole)
+
+module _ {s : List ℕ} {start step : ℕ} {lent : List ℕ} {r : CompileAnswer} {q : List ℕ} (call : Compiling 64 s start step lent r q)
+    (nought : r .number ≡ 0) where
+  -- "or, for a plan from elsewhere, that 01 would have folded it": 01's rules fold no row of a compiled plan, on any grid, and the call never says so.
+  pub compiled-stays : (i : ℕ) → i < Plan.rowCount q → Stays 64 (rowTree q i)
+  compiled-stays = Bridges.its-stays call nought
+
+  pub compiled-reason : (i : ℕ) {a : ReasonAnswer} → Explaining 64 q i a → (a .number ≡ 0) × (a .reason ≡ 7 → ⊥)
+  compiled-reason = Bridges.its-reason call nought
+
+  -- What the rules see of its root is the formula, folded.
+  pub compiled-root : {t : Tree} → Formula s t → rowTree q (Plan.rowCount q - 1) ≡ fold 64 start step t
+  compiled-root = Bridges.its-tree call nought
+
 -- ======== "any two conforming answers are proved equal", with all that the call leaves in what it was lent
 pub compile-unique : {s : List ℕ} {start step : ℕ} {lent : List ℕ} {r r′ : CompileAnswer} {q q′ : List ℕ}
     → Compiling 64 s start step lent r q → Compiling 64 s start step lent r′ q′ → (r ≡ r′) × (q ≡ q′)
@@ -682,6 +772,9 @@ pub fill-eras-unique : (p table : List ℕ) (budget : ℕ) (r r′ : FillErasAns
     → r′ ≡ fillEras 64 p table budget .answer → t′ ≡ fillEras 64 p table budget .table → q′ ≡ fillEras 64 p table budget .plan
     → (r ≡ r′) × (t ≡ t′) × (q ≡ q′)
 fill-eras-unique = Eras.fill-eras-unique
+
+pub reason-unique : (p : List ℕ) (r : ℕ) {a a′ : ReasonAnswer} → Explaining 64 p r a → Explaining 64 p r a′ → a ≡ a′
+reason-unique = Reasons.explaining-unique 64
 
 pub cost-unique : (p : List ℕ) (r r′ : CostAnswer) → r ≡ costAnswer p → r′ ≡ costAnswer p → r ≡ r′
 cost-unique = Sharing.cost-unique
@@ -744,13 +837,13 @@ probe-unique = Probe.probe-unique
 pub start-unique : (r r′ : Progress) → r ≡ started → r′ ≡ started → r ≡ r′
 start-unique r r′ = both-are
 
-pub step-unique : (p : Progress) (input : List ℕ) (b : Buffers) {r r′ : Stepped} {after after′ : Buffers}
-    → record { answer = r; buffers = after } ≡ stepped p input b → record { answer = r′; buffers = after′ } ≡ stepped p input b
+pub step-unique : (tool : Tool) (p : Progress) (input : List ℕ) (b : Buffers) {r r′ : Stepped} {after after′ : Buffers}
+    → record { answer = r; buffers = after } ≡ stepped tool p input b → record { answer = r′; buffers = after′ } ≡ stepped tool p input b
     → (r ≡ r′) × (after ≡ after′)
 step-unique = StepPromises.step-unique
 
-pub finish-unique : (p : Progress) (b : Buffers) {r r′ : Stepped} {after after′ : Buffers}
-    → record { answer = r; buffers = after } ≡ finished p b → record { answer = r′; buffers = after′ } ≡ finished p b
+pub finish-unique : (tool : Tool) (p : Progress) (b : Buffers) {r r′ : Stepped} {after after′ : Buffers}
+    → record { answer = r; buffers = after } ≡ finished tool p b → record { answer = r′; buffers = after′ } ≡ finished tool p b
     → (r ≡ r′) × (after ≡ after′)
 finish-unique = StepPromises.finish-unique
 

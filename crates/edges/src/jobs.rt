@@ -4,6 +4,7 @@ use edges_print as print;
 use edges_text::notation;
 use edges_text::text;
 use edges_text::words;
+use table::Tool;
 use table_progress::Stepped;
 
 // One byte more than a line may have.
@@ -86,6 +87,7 @@ fn run_steps(
     let mut left = input.len();
     while 0 < left {
         let stepped = table_steps::step(
+            Tool::Tables,
             progress,
             piece(input, at, is_cut),
             line,
@@ -101,7 +103,7 @@ fn run_steps(
         left -= 1;
     }
     show(
-        table_steps::finish(progress, line, defaults, plan, table, out),
+        table_steps::finish(Tool::Tables, progress, line, defaults, plan, table, out),
         out,
     );
 }

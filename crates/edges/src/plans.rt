@@ -2,20 +2,17 @@
 // The calls of the library that `grids` makes as well stand here once. Formulas that are only read are in `formulas`.
 use crate::eras;
 use edges_print as print;
+use edges_text::rows;
+use edges_text::rows::ELEMENTS_END;
+use edges_text::rows::END_BYTE;
 use edges_text::text;
 use edges_text::words;
 use plan::MOST_ROWS;
 use plan::PLAN_WORDS;
 use plan::ROW_WORDS;
-use plan::SPAN_START;
 ghost use Prim.Native.Nat.{_≤_};
 ghost use lib.ListN.{length};
 ghost use Rattle.plan.specs.Measures.{mostRows};
-
-// In row 0: the place behind its elements, and that of its end byte.
-const ELEMENTS_END: usize = 1 + SPAN_START;
-
-const END_BYTE: usize = ELEMENTS_END + 1;
 
 pub fn cost(plan: &[u64]) -> plan::CostAnswer {
     plan_costs::cost(plan)
@@ -27,21 +24,6 @@ pub fn filled(plan: &mut [u64], table: &mut [u64], budget: u64) -> plan::FillAns
 
 pub fn compiled(formula: &[u8], start: u64, step: u64, plan: &mut [u64]) -> fold::CompileAnswer {
     compile::compile(formula, start, step, plan)
-}
-
-// The next row. Its text is the first byte, unless the token has a word for its end.
-fn add(token: &[u8], plan: &mut [u64]) {
-    let r = words::word_at(plan, 0);
-    let before = word::times(ROW_WORDS as u64, r) as usize;
-    words::put(plan, std::num::wrapping_add_usize(before, END_BYTE), 1);
-    words::put_list(token, r, plan, std::num::wrapping_add_usize(before, 1));
-    words::put(plan, 0, std::num::wrapping_add_u64(r, 1));
-}
-
-// Words at a place of their own.
-fn plant(token: &[u8], plan: &mut [u64]) {
-    let start = text::number(text::before(token, b','), 0) as usize;
-    words::put_list(text::after(token, b','), 0, plan, start);
 }
 
 // The number of rows, and so many of them, without their spans. A row's words that are 0 up to its elements' end are left out, but for its kind.
@@ -164,22 +146,20 @@ fn step(token: &[u8], lent: usize, plan: &mut [u64], table: &mut [u64]) -> usize
         b'#' => {
             return text::number(token, 0) as usize;
         }
-        b'@' => plant(token, plan),
+        b'@' => rows::plant(token, plan),
         b't' => fill(token, held, plan, table),
         b'e' => eras::fill(token, held, plan, table),
         b's' => print_spans(plan),
         b'p' => {
-            add(b"0,0,0,3", plan);
-            add(b"1,1,0,5,2", plan);
+            rows::add(b"0,0,0,3", plan);
+            rows::add(b"1,1,0,5,2", plan);
         }
         b'=' => compile_on(text::after(token, b'='), 0, 1, held, plan),
         b'g' => {
-            let grid = text::before(token, b':');
-            let start = text::number(text::before(grid, b','), 0);
-            let step = text::number(text::after(grid, b','), 0);
-            compile_on(text::after(token, b':'), start, step, held, plan);
+            let grid = rows::grid_of(token);
+            compile_on(text::after(token, b':'), grid.start, grid.step, held, plan);
         }
-        _ => add(token, plan),
+        _ => rows::add(token, plan),
     }
     lent
 }

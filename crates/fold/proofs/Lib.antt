@@ -6,6 +6,7 @@ pub mod FoldShape
 pub mod Nesting
 pub mod TextSpans
 pub mod Origins
+pub mod KindTests
 pub mod RowOrder
 pub mod Bare
 pub mod CutMarks

@@ -94,7 +94,7 @@ pub root-end : (n : ℕ) (a : Folded) (whole : Span) → endByte (rootWords n a 
 root-end n a whole = end-back (kindOf a) (wordAOf n a) (wordBOf n a) (elements a) whole
 
 -- ---- what holds of each operand and its span, at every depth
-unfoldable Below : (Span → Folded → Type 0) → Folded → Type 0
+unfoldable pub Below : (Span → Folded → Type 0) → Folded → Type 0
 Below P (constant c) = Unit {0}
 Below P (sumChain f) = Unit {0}
 Below P (productChain f) = Unit {0}
@@ -162,7 +162,7 @@ module _ (P : Span → Folded → Type 0) (w : ℕ) where
         raise-rules (Below P) w s a b (λ e. tt) (λ e. products-below (words w (ProductChain.raised (wordOf a) (elements b)))) (h, k)
 
   -- What holds of what each part of a formula folds to, under its span, holds of each operand that stays.
-  fold-below : (start step : ℕ) (t : Tree) → ((u : Tree) → Part u t → P (spanOf u) (fold w start step u)) → Below P (fold w start step t)
+  pub fold-below : (start step : ℕ) (t : Tree) → ((u : Tree) → Part u t → P (spanOf u) (fold w start step u)) → Below P (fold w start step t)
   unfolding fold Below
   fold-below start step (Tree.number s p v) each = tt
   fold-below start step (Tree.variable s) each = sums-below _

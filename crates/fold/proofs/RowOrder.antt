@@ -21,10 +21,10 @@ module _ (rows : ℕ → Row) where
   abbrev pub Standing : ℕ → List Row → Type 0
   Standing n f = (i : ℕ) → i < length f → rows (n + i) ≡ getD f i []
 
-  front : (n : ℕ) (f g : List Row) → Standing n (f ++ g) → Standing n f
+  pub front : (n : ℕ) (f g : List Row) → Standing n (f ++ g) → Standing n f
   front n f g h i within = h i (simp length-append (omega arith)) ∙ List·getD-append f g [] i within
 
-  later : (n m : ℕ) (f g : List Row) → length f ≡ m → Standing n (f ++ g) → Standing (n + m) g
+  pub later : (n m : ℕ) (f g : List Row) → length f ≡ m → Standing n (f ++ g) → Standing (n + m) g
   later n m f g e h i within =
       ap rows place
       ∙ h (m + i) (simp length-append (omega arith))
@@ -120,7 +120,7 @@ module _ (rows : ℕ → Row) where
   }
 
   -- ---- every row of a tree
-  operands-stand : (n : ℕ) (whole : Span) (a : Folded) → Standing n (rowsFrom n whole a) → Standing n (operandRows n a)
+  pub operands-stand : (n : ℕ) (whole : Span) (a : Folded) → Standing n (rowsFrom n whole a) → Standing n (operandRows n a)
   operands-stand n whole a stands = front n (operandRows n a) (rootWords n a whole ∷ []) (subst (Standing n) (root-last n whole a) stands)
 
   behind : (n : ℕ) (whole : Span) (a : Folded) → Nested whole a → Standing n (rowsFrom n whole a) → AllRows (Ordered rows) (operandRows n a)

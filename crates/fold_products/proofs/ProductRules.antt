@@ -22,7 +22,7 @@ use Rattle.fold.proofs.Shape.{WellFormed}
 use Rattle.fold.proofs.Rules.{picked}
 use Rattle.fold.proofs.Tests.{shaped, either}
 use Rattle.fold.proofs.Origins.{kindOf}
-use Rattle.fold_rows.proofs.Stood.{constant-test, sum-chain-test, product-chain-test}
+use Rattle.fold.proofs.KindTests.{constant-test, sum-chain-test, product-chain-test}
 use Rattle.fold_operands.proofs.OperandLaws.{chain-operand, is-the-constant, Sum, one, several, sum-operand}
 use Rattle.fold_products.proofs.JointElements.{constant-joint, joint-constant}
 

@@ -27,6 +27,7 @@ use Rattle.fold.specs.Layout.{rowCount, rowWords, rootRow, rowsFrom, wordsOf}
 use Rattle.fold.proofs.ReadBack.{FullRows, full-append, length-words-of, cut-rows, Rows, rows-of, some-rows, length-tree}
 use Rattle.fold.proofs.ReadBack.{row-elements, first-back, end-back}
 use Rattle.fold.proofs.Origins.{kindOf, wordAOf, wordBOf, rootWords, operandRows, root-last, respanned}
+use Rattle.fold.proofs.KindTests.{constant-test, sum-chain-test, product-chain-test, sum-test}
 use Rattle.fold_rows.specs.Standing.{withWords, withRow, Stands, placed, withSpan, noSpan, lowered, movedDown}
 use Rattle.fold_rows.proofs.RowWords.{length-elements}
 use Rattle.fold_rows.proofs.Placing.{chainWords, sum-row, product-row}
@@ -123,42 +124,6 @@ pub chain-stands : (p : List ℕ) (n : ℕ) (whole : Span) (a : Folded) → Stan
 chain-stands p n whole a h few = root-stands p n whole a h ∙ chain-words n whole a few
 
 -- ---- the tests of the rules, by kinds
-pub constant-test : (a : Folded) → isConstant a ≡ eqb (kindOf a) 0
-unfolding kindOf
-constant-test (constant c) = refl
-constant-test (sumChain f) = refl
-constant-test (productChain f) = refl
-constant-test (sumRow s a b) = refl
-constant-test (differenceRow s a b) = refl
-constant-test (productRow s a b) = refl
-constant-test (minusRow s a) = refl
-constant-test (powerRow s a n) = refl
-constant-test (raiseRow s a b) = refl
-
-pub sum-chain-test : (a : Folded) → isSumChain a ≡ eqb (kindOf a) 1
-unfolding kindOf
-sum-chain-test (constant c) = refl
-sum-chain-test (sumChain f) = refl
-sum-chain-test (productChain f) = refl
-sum-chain-test (sumRow s a b) = refl
-sum-chain-test (differenceRow s a b) = refl
-sum-chain-test (productRow s a b) = refl
-sum-chain-test (minusRow s a) = refl
-sum-chain-test (powerRow s a n) = refl
-sum-chain-test (raiseRow s a b) = refl
-
-pub product-chain-test : (a : Folded) → isProductChain a ≡ eqb (kindOf a) 2
-unfolding kindOf
-product-chain-test (constant c) = refl
-product-chain-test (sumChain f) = refl
-product-chain-test (productChain f) = refl
-product-chain-test (sumRow s a b) = refl
-product-chain-test (differenceRow s a b) = refl
-product-chain-test (productRow s a b) = refl
-product-chain-test (minusRow s a) = refl
-product-chain-test (powerRow s a n) = refl
-product-chain-test (raiseRow s a b) = refl
-
 module _ (a : Folded) where
   pub is-constant : kindOf a ≡ 0 → isConstant a ≡ true
   is-constant e = constant-test a ∙ eq-eqb (kindOf a) 0 e
@@ -186,18 +151,6 @@ module _ (a : Folded) where
 
   pub is-none : (n : ℕ) → (kindOf a ≡ 0 → ⊥) → is n a ≡ false
   is-none n other = ap (λ t. t && eqb (wordOf a) n) (no-constant other)
-
-pub sum-test : (a : Folded) → isSum a ≡ ltb (kindOf a) 2
-unfolding kindOf
-sum-test (constant c) = refl
-sum-test (sumChain f) = refl
-sum-test (productChain f) = refl
-sum-test (sumRow s a b) = refl
-sum-test (differenceRow s a b) = refl
-sum-test (productRow s a b) = refl
-sum-test (minusRow s a) = refl
-sum-test (powerRow s a n) = refl
-sum-test (raiseRow s a b) = refl
 
 pub is-sum : (a : Folded) → kindOf a < 2 → isSum a ≡ true
 is-sum a h = sum-test a ∙ lt-ltb (kindOf a) 2 h

@@ -20,7 +20,8 @@ use Rattle.fold.specs.Folding.{is}
 use Rattle.fold.specs.Layout.{rowWords}
 use Rattle.fold.proofs.Origins.{kindOf}
 use Rattle.fold_rows.specs.Standing.{withRow, placed, noSpan, movedDown}
-use Rattle.fold_rows.proofs.Stood.{sum-test, placed-over}
+use Rattle.fold.proofs.KindTests.{sum-test}
+use Rattle.fold_rows.proofs.Stood.{placed-over}
 use Rattle.fold_operands.specs.Operands.{Operand, Operands, Left, Folds}
 use Rattle.fold_operands.proofs.OperandLaws.{constantAt, operand-kind, operand-last, operand-elements, operand-chain, operand-is, sum-operand}
 use Rattle.fold_operands.proofs.Leaving.{left-as, sum-left, answer-put, stays, moves, moved-operand, sum-row-left, difference-row-left}

@@ -8,8 +8,9 @@ use Rattle.chain.specs.BackwardAnswer.{inverseShiftOutcome, backwardShiftOutcom
 use Rattle.plan.specs.Filling.{fill, costAnswer, soundAnswer}
 use Rattle.plan.specs.Eras.{fillEras}
 use Rattle.fold.proofs.Promise.{compiling-unique}
+use Rattle.reason.proofs.Answers.{explaining-unique}
 use Rattle.probe.specs.Probe.{probeAnswer}
-use Rattle.otterchime.specs.Answers.{CompiledInto, compileWords, fillWords, fillErasWords, costWords, soundWords, chainWords, shiftWords, valueWords, probeWords}
+use Rattle.otterchime.specs.Answers.{CompiledInto, compileWords, ExplainedInto, reasonWords, fillWords, fillErasWords, costWords, soundWords, chainWords, shiftWords, valueWords, probeWords}
 
 pub compile-unique : {text lent plan plan′ answer answer′ : List ℕ} {start step : ℕ}
     → CompiledInto text start step lent plan answer → CompiledInto text start step lent plan′ answer′ → (answer ≡ answer′) × (plan ≡ plan′)
@@ -32,6 +33,10 @@ pub fill-eras-unique : (plan table : List ℕ) (budget : ℕ) {answer answer′ 
     → (answer′ ≡ fillErasWords (done .answer)) × ((filled′ ≡ done .table) × (left′ ≡ done .plan))
     → (answer ≡ answer′) × ((filled ≡ filled′) × (left ≡ left′))
 fill-eras-unique plan table budget A B = (both-are (A .0) (B .0), (both-are (A .1 .0) (B .1 .0), both-are (A .1 .1) (B .1 .1)))
+
+pub reason-unique : {plan answer answer′ : List ℕ} {row : ℕ} → ExplainedInto plan row answer → ExplainedInto plan row answer′ → answer ≡ answer′
+reason-unique {plan} {row = row} A B =
+    A .laid ∙ ap reasonWords (explaining-unique 64 plan row (A .explains) (B .explains)) ∙ sym (B .laid)
 
 -- ---- the calls that alter nothing but their answer
 module _ (answer answer′ : List ℕ) where

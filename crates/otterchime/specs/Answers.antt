@@ -12,6 +12,8 @@ use Rattle.plan.specs.declared.CostAnswer.{CostAnswer}
 use Rattle.plan.specs.declared.SoundAnswer.{SoundAnswer}
 use Rattle.fold.specs.declared.CompileAnswer.{CompileAnswer}
 use Rattle.fold.specs.Compiling.{Compiling}
+use Rattle.reason.specs.declared.ReasonAnswer.{ReasonAnswer}
+use Rattle.reason.specs.Explaining.{Explaining}
 use Rattle.probe.specs.declared.Verdict.{Verdict}
 use Rattle.probe.specs.declared.Verdict.the-variants.{NoVerdict, Within, Ahead, Behind, Unset}
 use Rattle.probe.specs.declared.ProbeAnswer.{ProbeAnswer}
@@ -35,6 +37,10 @@ fillWords r = r .number ∷ r .place ∷ r .points ∷ r .spent ∷ []
 -- The same, and the word that reads as the sum of the crossings.
 abbrev pub fillErasWords : FillErasAnswer → List ℕ
 fillErasWords r = r .number ∷ r .place ∷ r .points ∷ r .spent ∷ wordOf 64 (r .sum) ∷ []
+
+-- Number, place, the reason, first byte and end byte of the row's text.
+abbrev pub reasonWords : ReasonAnswer → List ℕ
+reasonWords r = r .number ∷ r .place ∷ r .reason ∷ r .first ∷ r .end ∷ []
 
 -- Number, place, the chain's length, its 17 elements: 20 words.
 abbrev pub chainAnswerLength : ℕ
@@ -71,3 +77,9 @@ pub record CompiledInto (text : List ℕ) (start step : ℕ) (lent plan answer :
   pub result : CompileAnswer
   pub compiles : Compiling 64 text start step lent result plan
   pub laid : answer ≡ compileWords result
+
+-- A row of a plan explained: what the answer holds afterwards.
+pub record ExplainedInto (plan : List ℕ) (row : ℕ) (answer : List ℕ) : Type 0 where
+  pub result : ReasonAnswer
+  pub explains : Explaining 64 plan row result
+  pub laid : answer ≡ reasonWords result

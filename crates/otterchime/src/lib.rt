@@ -1,6 +1,6 @@
 // The door: the calls on formulas, plans, chains and readings once more, for C, in one style. Numbers and slices come in, and the answer goes into lent words:
 // word 0 the refusal's number, word 1 its place, then the call's own words (specs/Answers.antt).
-// Compiling, filling and the probe are here, the chain calls in `chains` and `backward`.
+// Compiling, filling, explaining and the probe are here, the chain calls in `chains` and `backward`.
 mod backward;
 mod chains;
 
@@ -10,7 +10,7 @@ ghost use Rattle.plan.specs.Filling.{fill, costAnswer, soundAnswer};
 ghost use Rattle.plan.specs.Eras.{fillEras};
 ghost use Rattle.word.specs.Signed.{wordOf};
 ghost use Rattle.probe.specs.Probe.{probeAnswer};
-ghost use Rattle.otterchime.specs.Answers.{CompiledInto, fillWords, fillErasWords, costWords, soundWords, probeWords, verdictNumber};
+ghost use Rattle.otterchime.specs.Answers.{CompiledInto, ExplainedInto, fillWords, fillErasWords, costWords, soundWords, probeWords, verdictNumber};
 
 // Compiles a formula's text on a grid into a lent plan of 2,817 words. A refusal alters no word of the plan; words past its own stay.
 #[no_mangle]
@@ -82,6 +82,15 @@ pub extern "C" fn otterchime_sound(plan: &[u64], answer: &mut [u64; 2])
 {
     let r = plan_sound::sound(plan);
     *answer = [r.number, r.place];
+}
+
+// Why a row of a plan is still there, and the bytes of the text that it came from. Any word may be a row's number.
+#[no_mangle]
+pub extern "C" fn otterchime_reason(plan: &[u64], row: u64, answer: &mut [u64; 5])
+    ensures { λ _. ⌜ ExplainedInto (now (plan .entry)) row (now (answer .exit)) ⌝ }
+{
+    let r = reason_call::reason(plan, row as usize);
+    *answer = [r.number, r.place, r.reason, r.first, r.end];
 }
 
 // The word that reads as a signed number, with no step that overflows.

@@ -15,7 +15,7 @@ ghost use Rattle.plan.specs.Plan.{sound, cost};
 ghost use Rattle.plan.specs.Filling.{costAnswer};
 
 // The cost of a row of a sound plan.
-fn row_cost(row: &[u64]) -> u64
+pub fn row_cost(row: &[u64]) -> u64
     requires { ⌜ length (now row) ≡ rowLength ⌝ }
     requires { ⌜ kind (now row) < 9 ⌝ }
     requires { ⌜ (kind (now row) ≡ 7 → 1 ≤ wordB (now row)) ⌝ }

@@ -3,6 +3,9 @@ use mathlib.Core.List.{List, [], _∷_, _++_}
 use Prim.Native.Nat.{ℕ, zero, suc}
 use Rattle.formula.specs.Tree.{Tree}
 use Rattle.formula.specs.Value.{directValue}
+use Rattle.plan.specs.Row.{Row, firstByte, endByte, rowCost}
+use Rattle.fold.specs.RowSpans.{textOf}
+use Rattle.reason.specs.Wording.{reasonText}
 use Rattle.table.specs.Decimal.{decimal}
 use Rattle.table.specs.Parts.{tab, lineFeed}
 
@@ -26,6 +29,15 @@ pointLine i value = decimal i ++ tab ∷ decimal value ++ lineFeed ∷ []
 unfoldable pub pointLines : ℕ → List ℕ → List ℕ
 pointLines i [] = []
 pointLines i (value ∷ more) = pointLine i value ++ pointLines (suc i) more
+
+-- A row, for the row explainer, with "its span and one reason" (request Six): `row`, its number from 0, first byte, end byte, its cost, the reason's words
+-- and the text of its span, a part of the formula.
+abbrev pub rowLine : (formula : List ℕ) (r : ℕ) → Row → (reason : ℕ) → List ℕ
+rowLine formula r x reason =
+    114 ∷ 111 ∷ 119 ∷ tab ∷ decimal r ++ tab ∷ decimal (firstByte x) ++ tab ∷ decimal (endByte x) ++ tab ∷ decimal (rowCost x)
+    ++ tab ∷ reasonText reason
+    ++ tab ∷ textOf formula x
+    ++ lineFeed ∷ []
 
 -- What the points stand for: a tree's direct values, n of them, from index i on.
 unfoldable pub directValues : (w start step : ℕ) → Tree → (i n : ℕ) → List ℕ

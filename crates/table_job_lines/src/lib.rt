@@ -10,7 +10,7 @@ ghost use Rattle.table.specs.Parts.{tab};
 ghost use Rattle.table.specs.Lines.{threeNumbers, noLine, jobLine, pointLine, pointLines};
 
 // A number behind a tab.
-fn write_field(out: &mut [u8], at: usize, n: u64) -> usize
+pub fn write_field(out: &mut [u8], at: usize, n: u64) -> usize
     requires { ⌜ at + 21 ≤ length (now out) ⌝ }
     ensures { λ r. ⌜ Wrote (now (out .entry)) at (tab ∷ decimal n) r (now (out .exit)) ⌝ }
     ensures { λ r. ⌜ r ≤ at + 21 ⌝ }

@@ -1,6 +1,7 @@
-// What a whole line does: the header, the defaults line, a job.
+// What a whole line does, in a run of either tool: the header, the defaults line, a job.
 // How lines are found in the input is for `table_steps`.
 use plan::PLAN_WORDS;
+use table::Tool;
 use table_fields::fields;
 use table_progress::Awaited;
 use table_progress::LineDone;
@@ -10,6 +11,7 @@ ghost use mathlib.Core.List.{List};
 ghost use Prim.Native.Nat.{ℕ, _+_, _-_, _*_, _^_, _≤_, _<_};
 ghost use lib.ListN.{length};
 ghost use Rattle.plan.specs.Measures.{planLength};
+ghost use Rattle.table.specs.declared.Tool.{Tool};
 ghost use Rattle.table_fields.specs.Writing.{Wrote};
 ghost use Rattle.table_progress.specs.Printed.{jobPrints};
 ghost use Rattle.table_progress.specs.Run.{theHeader, theDefaults, aJob, linePrints, endPrints};
@@ -34,7 +36,7 @@ pub fn ended() -> Progress
 fn end_header(line: &[u8], out: &mut [u8]) -> LineDone
     requires { ⌜ 67 ≤ length (now out) ⌝ }
     ensures { λ r. ⌜ r .progress ≡ progressBy Header 0 0 (now (line .entry)) ⌝ }
-    ensures { λ r. ⌜ Wrote (now (out .entry)) 0 (linePrints theHeader (now (line .entry))) (r .wrote) (now (out .exit)) ⌝ }
+    ensures { λ r. ⌜ ((tool : Tool) → Wrote (now (out .entry)) 0 (linePrints tool theHeader (now (line .entry))) (r .wrote) (now (out .exit))) ⌝ }
 {
     if table_line_checks::is_header(line) {
         return LineDone {
@@ -59,7 +61,7 @@ fn end_defaults(line: &[u8], defaults: &mut [u8], out: &mut [u8]) -> LineDone
     requires { ⌜ 4096 ≤ length (now defaults) ⌝ }
     requires { ⌜ 67 ≤ length (now out) ⌝ }
     ensures { λ r. ⌜ r .progress ≡ progressBy Defaults 0 0 (now (line .entry)) ⌝ }
-    ensures { λ r. ⌜ Wrote (now (out .entry)) 0 (linePrints theDefaults (now (line .entry))) (r .wrote) (now (out .exit)) ⌝ }
+    ensures { λ r. ⌜ ((tool : Tool) → Wrote (now (out .entry)) 0 (linePrints tool theDefaults (now (line .entry))) (r .wrote) (now (out .exit))) ⌝ }
     ensures { λ _. ⌜ now (defaults .exit) ≡ defaultsAfter theDefaults (now (line .entry)) (now (defaults .entry)) ⌝ }
 {
     let judged = table_line_checks::judge_defaults(line);
@@ -84,6 +86,7 @@ fn end_defaults(line: &[u8], defaults: &mut [u8], out: &mut [u8]) -> LineDone
 
 // Job n. Answers the bytes that it printed.
 fn end_job<'a>(
+    tool: Tool,
     n: u64,
     line: &'a [u8],
     defaults: &'a [u8],
@@ -94,13 +97,14 @@ fn end_job<'a>(
     requires { ⌜ planLength ≤ length (now plan) ⌝ }
     requires { ⌜ 4096 ≤ length (now table) ⌝ }
     requires { ⌜ 67 + 42 * 4096 ≤ length (now out) ⌝ }
-    ensures { λ r. ⌜ Wrote (now (out .entry)) 0 (jobPrints n (now (line .entry)) (now (defaults .entry))) r (now (out .exit)) ⌝ }
-    ensures { λ _. ⌜ now (plan .exit) ≡ planAfterLine (aJob (now (defaults .entry)) n) (now (line .entry)) (now (plan .entry)) ⌝ }
-    ensures { λ _. ⌜ now (table .exit) ≡ tableAfterLine (aJob (now (defaults .entry)) n) (now (line .entry)) (now (table .entry)) ⌝ }
+    ensures { λ r. ⌜ Wrote (now (out .entry)) 0 (jobPrints tool n (now (line .entry)) (now (defaults .entry))) r (now (out .exit)) ⌝ }
+    ensures { λ _. ⌜ now (plan .exit) ≡ planAfterLine tool (aJob (now (defaults .entry)) n) (now (line .entry)) (now (plan .entry)) ⌝ }
+    ensures { λ _. ⌜ now (table .exit) ≡ tableAfterLine tool (aJob (now (defaults .entry)) n) (now (line .entry)) (now (table .entry)) ⌝ }
 {
     let judged = table_line_checks::judge_job(line, defaults);
     let formula = fields::pick(line, defaults, 1);
     table_jobs::print_job(
+        tool,
         n,
         judged,
         formula,
@@ -112,6 +116,7 @@ fn end_job<'a>(
 
 // The line that was awaited is whole.
 pub fn end_line(
+    tool: Tool,
     progress: Progress,
     line: &[u8],
     defaults: &mut [u8],
@@ -126,10 +131,10 @@ pub fn end_line(
     requires { ⌜ 4096 ≤ length (now table) ⌝ }
     requires { ⌜ 67 + 42 * 4096 ≤ length (now out) ⌝ }
     ensures { λ r. ⌜ r .progress ≡ progressAfter progress (now (line .entry)) ⌝ }
-    ensures { λ r. ⌜ Wrote (now (out .entry)) 0 (linePrints (awaits progress (now (defaults .entry))) (now (line .entry))) (r .wrote) (now (out .exit)) ⌝ }
+    ensures { λ r. ⌜ Wrote (now (out .entry)) 0 (linePrints tool (awaits progress (now (defaults .entry))) (now (line .entry))) (r .wrote) (now (out .exit)) ⌝ }
     ensures { λ _. ⌜ now (defaults .exit) ≡ defaultsAfter (awaits progress (now (defaults .entry))) (now (line .entry)) (now (defaults .entry)) ⌝ }
-    ensures { λ _. ⌜ now (plan .exit) ≡ planAfterLine (awaits progress (now (defaults .entry))) (now (line .entry)) (now (plan .entry)) ⌝ }
-    ensures { λ _. ⌜ now (table .exit) ≡ tableAfterLine (awaits progress (now (defaults .entry))) (now (line .entry)) (now (table .entry)) ⌝ }
+    ensures { λ _. ⌜ now (plan .exit) ≡ planAfterLine tool (awaits progress (now (defaults .entry))) (now (line .entry)) (now (plan .entry)) ⌝ }
+    ensures { λ _. ⌜ now (table .exit) ≡ tableAfterLine tool (awaits progress (now (defaults .entry))) (now (line .entry)) (now (table .entry)) ⌝ }
 {
     let awaited = progress.awaited;
     match awaited {
@@ -137,7 +142,15 @@ pub fn end_line(
         Awaited::Defaults => end_defaults(line, defaults, out),
         Awaited::Job => {
             let kept = progress.kept;
-            let wrote = end_job(progress.number, line, &defaults[0..kept], plan, table, out);
+            let wrote = end_job(
+                tool,
+                progress.number,
+                line,
+                &defaults[0..kept],
+                plan,
+                table,
+                out,
+            );
             let next = progress.number + 1;
             LineDone {
                 progress: Progress {

@@ -3,6 +3,7 @@
 use mathlib.Core.Path.{_≡_, sym, ap, _∙_, subst}
 use mathlib.Core.List.{List, _++_}
 use Prim.Native.Nat.{ℕ}
+use Rattle.table.specs.declared.Tool.{Tool}
 use Rattle.table_progress.specs.declared.Progress.{Progress}
 use Rattle.table_progress.specs.Run.{run}
 use Rattle.table_progress.specs.Steps.{started, Buffers}
@@ -12,26 +13,26 @@ use Rattle.table_progress.proofs.Readiness.{step-was-ready, end-was-rea
 use Rattle.table_progress.proofs.Stepping.{remaining, StepDone, step-done, end-done}
 
 -- From anywhere in a run, the calls write what remains of it.
-pub adds-up-from : {p : Progress} {line defaults input output : List ℕ} → Runs p line defaults input output → output ≡ remaining p line defaults input
-adds-up-from {p} {line} {defaults} (ends plan table out ok e) =
-    e ∙ end-done p (lent line defaults plan table out) (end-was-ready p (lent line defaults plan table out) ok) .prints
-adds-up-from {p} {line} {defaults} {input} {output} (steps plan table out chunk rest later o cut same ok more e) =
+pub adds-up-from : {tool : Tool} {p : Progress} {line defaults input output : List ℕ} → Runs tool p line defaults input output → output ≡ remaining tool p line defaults input
+adds-up-from {tool} {p} {line} {defaults} (ends plan table out ok e) =
+    e ∙ end-done tool p (lent line defaults plan table out) (end-was-ready tool p (lent line defaults plan table out) ok) .prints
+adds-up-from {tool} {p} {line} {defaults} {input} {output} (steps plan table out chunk rest later o cut same ok more e) =
     e
     ∙ ap (λ x. written o ++ x) (adds-up-from more)
     ∙ sym (done .prints rest)
-    ∙ ap (remaining p line defaults) (sym cut)
+    ∙ ap (remaining tool p line defaults) (sym cut)
   where
     b : Buffers
     b = lent line defaults plan table out
 
-    done : StepDone p chunk b o
-    done = subst (StepDone p chunk b) (sym same) (step-done p chunk b (step-was-ready p chunk b (ap (λ x. x .answer .ok) (sym same) ∙ ok)))
+    done : StepDone tool p chunk b o
+    done = subst (StepDone tool p chunk b) (sym same) (step-done tool p chunk b (step-was-ready tool p chunk b (ap (λ x. x .answer .ok) (sym same) ∙ ok)))
 
 -- Every run from the start writes what the definition says, whatever stood in its buffers.
-pub adds-up : {line defaults input output : List ℕ} → Runs started line defaults input output → output ≡ run input
-adds-up {input = input} runs = adds-up-from runs ∙ sym (run-is-scan input)
+pub adds-up : {tool : Tool} {line defaults input output : List ℕ} → Runs tool started line defaults input output → output ≡ run tool input
+adds-up {tool} {input = input} runs = adds-up-from runs ∙ sym (run-is-scan tool input)
 
 -- So two runs over the same input write the same, whatever their cuts, buffers and chunks.
-pub same-output : {line defaults line′ defaults′ input output output′ : List ℕ}
-    → Runs started line defaults input output → Runs started line′ defaults′ input output′ → output ≡ output′
+pub same-output : {tool : Tool} {line defaults line′ defaults′ input output output′ : List ℕ}
+    → Runs tool started line defaults input output → Runs tool started line′ defaults′ input output′ → output ≡ output′
 same-output runs others = adds-up runs ∙ sym (adds-up others)

@@ -16,14 +16,19 @@ use Rattle.plan.specs.Filling.{pointValues}
 use Rattle.fold.specs.Folded.{Folded}
 use Rattle.fold.specs.Folding.{foldSum, foldMinus, foldDifference, foldProduct, foldPower, foldRaise, fold}
 use Rattle.fold.specs.Layout as Layout
+use Rattle.fold.proofs.Origins.{kindOf}
+use Rattle.reason.specs.RowTrees.{operatorOver, treeOver, trees}
+use Rattle.reason.specs.Wording.{reasonText}
+use Rattle.reason.proofs.Numbers.{sumFolds, productFolds, powerFolds, joinedNumber, sumNumber, productNumber, minusNumber, powerNumber, raiseNumber, reasonOf}
 use Rattle.table.specs.Decimal.{lastDigits}
 use Rattle.table.specs.NumberField.{allDigits, isNumber, numberUpTo}
 use Rattle.table.specs.declared.JobLine.{JobLine}
+use Rattle.table.specs.declared.Tool.{Tool}
 use Rattle.table.specs.Parts.{inFirst, lines, before, after, afterTabs}
 use Rattle.table.specs.Judged.{sameBytes, judgedDefaults, judgedJob}
 use Rattle.table.specs.Lines.{pointLines}
 use Rattle.table.specs.Run.{RunPrints}
-use Rattle.table_progress.specs.Printed.{verdictPrints, judgedPrints, jobPrints}
+use Rattle.table_progress.specs.Printed.{rowsPrint, verdictPrints, judgedPrints, jobPrints}
 use Rattle.table_progress.specs.Run.{linePrints, afterLine, endPrints, linesPrint, run}
 use Rattle.table_progress.specs.Steps.{started}
 use Rattle.table_progress.specs.Examples.{Example, paper, examples}
@@ -49,37 +54,46 @@ unfoldable pub judgesLine : List ℕ → List ℕ → JobLine
 unfolding digitsFrom count allDigits isNumber numberUpTo before after afterTabs judgedJob
 judgesLine l defaults = judgedJob l defaults
 
-unfoldable pub prints : ℕ → List ℕ → List ℕ → List ℕ
-unfolding judges folds Chain.row Layout.rowCount Layout.rowsFrom Layout.wordsOf fills judgesLine lastDigits pointLines verdictPrints judgedPrints
-prints n l defaults = jobPrints n l defaults
+unfoldable pub decides : Folded → ℕ
+unfolding sumFolds productFolds powerFolds joinedNumber sumNumber productNumber minusNumber powerNumber raiseNumber reasonOf
+decides t = reasonOf t
+
+unfoldable pub explains : List ℕ → List ℕ → ℕ → List ℕ
+unfolding Chain.trimmed Chain.withoutTrailing trees treeOver operatorOver kindOf decides reasonText rowsPrint
+explains formula p r = rowsPrint formula p r
+
+unfoldable pub prints : Tool → ℕ → List ℕ → List ℕ → List ℕ
+unfolding judges folds Chain.row Layout.rowCount Layout.rowsFrom Layout.wordsOf fills explains judgesLine lastDigits pointLines verdictPrints judgedPrints
+prints tool n l defaults = jobPrints tool n l defaults
 
 -- What an input prints: name it on the `unfolding` line, and `refl` decides.
-unfoldable pub printed : List ℕ → List ℕ
+unfoldable pub printed : Tool → List ℕ → List ℕ
 unfolding prints inFirst lines sameBytes judgedDefaults linePrints afterLine endPrints linesPrint
-printed input = run input
+printed tool input = run tool input
 
 -- ---- the table
 -- One computed test over the whole table, and what it says of each line.
-test : map (λ (e : Example). run (e .input)) examples ≡ map (λ (e : Example). e .output) examples
+test : map (λ (e : Example). run (e .tool) (e .input)) examples ≡ map (λ (e : Example). e .output) examples
 unfolding printed
 test = refl
 
-paper-printed : run (paper .input) ≡ paper .output
+paper-printed : run (paper .tool) (paper .input) ≡ paper .output
 unfolding printed
 paper-printed = refl
 
 -- A place past the table's end gives the paper's example again.
-pub example-printed : (i : ℕ) → run (getD examples i paper .input) ≡ getD examples i paper .output
+pub example-printed : (i : ℕ) → run (getD examples i paper .tool) (getD examples i paper .input) ≡ getD examples i paper .output
 example-printed i =
-    sym (List·getD-map (λ (e : Example). run (e .input)) examples i paper)
+    sym (List·getD-map (λ (e : Example). run (e .tool) (e .input)) examples i paper)
     ∙ ap₂ (λ l e. getD l i e) test paper-printed
     ∙ List·getD-map (λ (e : Example). e .output) examples i paper
 
 -- So does every run over it, however it is cut.
-pub example-runs : (i : ℕ) {line defaults output : List ℕ} → Runs started line defaults (getD examples i paper .input) output
+pub example-runs : (i : ℕ) {line defaults output : List ℕ} → Runs (getD examples i paper .tool) started line defaults (getD examples i paper .input) output
     → output ≡ getD examples i paper .output
 example-runs i runs = adds-up runs ∙ example-printed i
 
 -- And it is what `RunPrints` says of the input.
-pub example-said : (i : ℕ) → RunPrints (getD examples i paper .input) (getD examples i paper .output)
-example-said i = subst (RunPrints (getD examples i paper .input)) (example-printed i) (run-prints (getD examples i paper .input))
+pub example-said : (i : ℕ) → RunPrints (getD examples i paper .tool) (getD examples i paper .input) (getD examples i paper .output)
+example-said i =
+    let e = getD examples i paper in subst (RunPrints (e .tool) (e .input)) (example-printed i) (run-prints (e .tool) (e .input))

@@ -16,28 +16,29 @@ use Rattle.table.specs.Judged.{judgedDefaults, judgedJob}
 use Rattle.table.proofs.NumbersJudged.{defaults-misshapen}
 use Rattle.table.proofs.PartsJudged.{header-held, defaults-held, job-held, defaults-whole, job-whole}
 use Rattle.table.specs.Lines.{noLine}
+use Rattle.table.specs.declared.Tool.{Tool}
 use Rattle.table_progress.specs.Printed.{judgedPrints, jobPrints}
 use Rattle.table_progress.specs.Run.{Awaits, theHeader, theDefaults, aJob, nothing, linePrints, afterLine, endPrints}
 use Rattle.table_progress.proofs.Scanned.{scan}
 
 -- ---- a line
 -- Where a job line is refused, its formula does not count.
-refused-alike : (n : ℕ) (job : JobLine) (s t : List ℕ) → job .ok ≡ false → judgedPrints n job s ≡ judgedPrints n job t
+refused-alike : (tool : Tool) (n : ℕ) (job : JobLine) (s t : List ℕ) → job .ok ≡ false → judgedPrints tool n job s ≡ judgedPrints tool n job t
 unfolding judgedPrints
-refused-alike n job s t e = rw e
+refused-alike tool n job s t e = rw e
 
-pub first-bytes-print : (awaits : Awaits) (l : List ℕ) → linePrints awaits (take 4097 l) ≡ linePrints awaits l
+pub first-bytes-print : (tool : Tool) (awaits : Awaits) (l : List ℕ) → linePrints tool awaits (take 4097 l) ≡ linePrints tool awaits l
 unfolding linePrints
-first-bytes-print theHeader l = ap (λ t. cond t [] (noLine 0 12 0)) (header-held l)
-first-bytes-print theDefaults l = ap (λ (d : DefaultsLine). cond (d .ok) [] (noLine 0 11 (d .place))) (defaults-held l)
-first-bytes-print (aJob kept n) l = go (judgedJob l kept .ok) refl
+first-bytes-print tool theHeader l = ap (λ t. cond t [] (noLine 0 12 0)) (header-held l)
+first-bytes-print tool theDefaults l = ap (λ (d : DefaultsLine). cond (d .ok) [] (noLine 0 11 (d .place))) (defaults-held l)
+first-bytes-print tool (aJob kept n) l = go (judgedJob l kept .ok) refl
   where
-    go : (t : Bool) → judgedJob l kept .ok ≡ t → jobPrints n (take 4097 l) kept ≡ jobPrints n l kept
-    go true e = ap (λ m. jobPrints n m kept) (job-whole l kept e)
+    go : (t : Bool) → judgedJob l kept .ok ≡ t → jobPrints tool n (take 4097 l) kept ≡ jobPrints tool n l kept
+    go true e = ap (λ m. jobPrints tool n m kept) (job-whole l kept e)
     go false e =
-        ap (λ job. judgedPrints n job (picked 1 (take 4097 l) kept)) (job-held l kept)
-        ∙ refused-alike n (judgedJob l kept) (picked 1 (take 4097 l) kept) (picked 1 l kept) e
-first-bytes-print nothing l = refl
+        ap (λ job. judgedPrints tool n job (picked 1 (take 4097 l) kept)) (job-held l kept)
+        ∙ refused-alike tool n (judgedJob l kept) (picked 1 (take 4097 l) kept) (picked 1 l kept) e
+first-bytes-print tool nothing l = refl
 
 pub first-bytes-after : (awaits : Awaits) (l : List ℕ) → afterLine awaits (take 4097 l) ≡ afterLine awaits l
 unfolding afterLine
@@ -70,8 +71,8 @@ empty-taken n (x ∷ l) = refl
 
 -- Bytes held that have the same first 4,097.
 module _ (held other : List ℕ) (same : take 4097 held ≡ take 4097 other) where
-  same-print : (awaits : Awaits) → linePrints awaits held ≡ linePrints awaits other
-  same-print awaits = sym (first-bytes-print awaits held) ∙ ap (linePrints awaits) same ∙ first-bytes-print awaits other
+  same-print : (tool : Tool) (awaits : Awaits) → linePrints tool awaits held ≡ linePrints tool awaits other
+  same-print tool awaits = sym (first-bytes-print tool awaits held) ∙ ap (linePrints tool awaits) same ∙ first-bytes-print tool awaits other
 
   same-after : (awaits : Awaits) → afterLine awaits held ≡ afterLine awaits other
   same-after awaits = sym (first-bytes-after awaits held) ∙ ap (afterLine awaits) same ∙ first-bytes-after awaits other
@@ -82,15 +83,15 @@ module _ (held other : List ℕ) (same : take 4097 held ≡ take 4097 other) whe
   same-more : (m : List ℕ) → take 4097 (held ++ m) ≡ take 4097 (other ++ m)
   same-more m = sym (take-more 4097 held m) ∙ ap (λ l. take 4097 (l ++ m)) same ∙ take-more 4097 other m
 
-same-scan : (awaits : Awaits) (held other s : List ℕ) → take 4097 held ≡ take 4097 other → scan awaits held s ≡ scan awaits other s
+same-scan : (tool : Tool) (awaits : Awaits) (held other s : List ℕ) → take 4097 held ≡ take 4097 other → scan tool awaits held s ≡ scan tool awaits other s
 unfolding scan
-same-scan awaits held other [] same =
+same-scan tool awaits held other [] same =
     ap₂ (λ t x. cond t (endPrints awaits) x) (same-empty held other same)
-    (ap₂ (λ x a. x ++ endPrints a) (same-print held other same awaits) (same-after held other same awaits))
-same-scan awaits held other (c ∷ s) same =
+    (ap₂ (λ x a. x ++ endPrints a) (same-print held other same tool awaits) (same-after held other same awaits))
+same-scan tool awaits held other (c ∷ s) same =
     ap₂ (λ x y. cond (eqb c lineFeed) x y)
-    (ap₂ (λ x a. x ++ scan a [] s) (same-print held other same awaits) (same-after held other same awaits))
-    (same-scan awaits (held ++ c ∷ []) (other ++ c ∷ []) s (same-more held other same (c ∷ [])))
+    (ap₂ (λ x a. x ++ scan tool a [] s) (same-print held other same tool awaits) (same-after held other same awaits))
+    (same-scan tool awaits (held ++ c ∷ []) (other ++ c ∷ []) s (same-more held other same (c ∷ [])))
 
-pub first-bytes-scan : (awaits : Awaits) (held s : List ℕ) → scan awaits (take 4097 held) s ≡ scan awaits held s
-first-bytes-scan awaits held s = same-scan awaits (take 4097 held) held s (take-take 4097 4097 held (omega arith))
+pub first-bytes-scan : (tool : Tool) (awaits : Awaits) (held s : List ℕ) → scan tool awaits (take 4097 held) s ≡ scan tool awaits held s
+first-bytes-scan tool awaits held s = same-scan tool awaits (take 4097 held) held s (take-take 4097 4097 held (omega arith))

@@ -36,6 +36,25 @@ copied from to = take (length from) from ++ drop (length from) to
 pub copied-over : (from to : List ℕ) → copied from to ≡ over from to
 copied-over from to = ap (λ s. s ++ drop (length from) to) (take-length from)
 
+-- A part of a buffer, filled with the bytes of a text.
+module _ (at : ℕ) (l s : List ℕ) (end : ℕ) (e : end ≡ at + length s) (inside : end ≤ length l) where
+  pub copied-part : copied s (part at end l) ≡ s
+  copied-part =
+      copied-over s (part at end l) ∙ ap (λ n. s ++ drop n (part at end l)) size ∙ ap (λ r. s ++ r) (drop-length (part at end l)) ∙ append-nil s
+    where
+      size : length s ≡ length (part at end l)
+      size = omega (arith, length-take-le (end - at) (drop at l) (omega (arith, length-drop at l)))
+
+  pub text-wrote : {new : List ℕ} → new ≡ copied s (part at end l) → Wrote l at s end (partPut at end l new)
+  text-wrote put = record {
+    bytes =
+        ap (partPut at end l) (put ∙ copied-part)
+        ∙ part-put at end l s (omega arith)
+        ∙ append-assoc (take at l) s (drop end l)
+        ∙ ap (λ n. take at l ++ (s ++ drop n l)) e;
+    next = e;
+  }
+
 -- ---- bytes behind those that are held
 module _ (held : ℕ) (line more : List ℕ) where
   -- So many bytes are held then, at the beginning of the buffer.
@@ -47,17 +66,11 @@ module _ (held : ℕ) (line more : List ℕ) where
     at-hand : length (take held line ++ s) ≡ end
     at-hand = omega (arith, length-append (take held line) s, length-take-le held line (omega arith))
 
-    size : length s ≡ length (part held end line)
-    size = omega (arith, length-take-le (end - held) (drop held line) (omega (arith, length-drop held line)))
-
-    filled : copied s (part held end line) ≡ s
-    filled = copied-over s (part held end line) ∙ ap (λ n. s ++ drop n (part held end line)) size ∙ ap (λ r. s ++ r) (drop-length (part held end line)) ∙ append-nil s
-
     held-behind : {new : List ℕ} → heldWith held line more ≡ take held line ++ s → new ≡ copied s (part held end line)
         → Held end (partPut held end line new)
     held-behind so put = (
       sym at-hand ∙ sym (ap length so),
-      ap (partPut held end line) (put ∙ filled)
+      ap (partPut held end line) (put ∙ copied-part held line s end e inside)
           ∙ part-put held end line s (omega arith)
           ∙ ap (λ n. take held line ++ s ++ drop n line) (sym at-hand)
           ∙ ap (λ r. over r line) (sym so),

@@ -13,6 +13,7 @@ pub mod GoingOn
 pub mod OutRoom
 pub mod Examples
 pub mod PointLines
+pub mod RowLines
 pub mod AllPoints
 pub mod DirectValues
 pub mod Jobs

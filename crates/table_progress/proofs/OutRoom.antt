@@ -14,6 +14,7 @@ use Rattle.table.specs.Parts.{lineFeed, field, before, picked}
 use Rattle.table.specs.Judged.{isHeader, isMisshapen, largestWord, mostPoints, badNumber, emptyField, defaultsAt, judgedDefaults, jobRefused, judgedJob}
 use Rattle.table.proofs.PartsJudged.{job-small}
 use Rattle.table.specs.Lines.{noLine}
+use Rattle.table.specs.declared.Tool.{Tool}
 use Rattle.table_progress.specs.Printed.{jobPrints}
 use Rattle.table_progress.proofs.Lengths.{no-line-most, job-most}
 use Rattle.table_progress.specs.declared.Awaited.{Awaited}
@@ -66,11 +67,11 @@ job-place-small l kept =
     bad = badNumber (picked 2 l kept) (picked 3 l kept) (picked 4 l kept)
 
 -- ---- what a line prints, and what it and the end of the input print
-jobs-fit : (n : ℕ) (l kept : List ℕ) → n < 2 ^ 64 - 1 → length (jobPrints n l kept) ≤ mostPrinted
-jobs-fit n l kept h =
+jobs-fit : (tool : Tool) (n : ℕ) (l kept : List ℕ) → n < 2 ^ 64 - 1 → length (jobPrints tool n l kept) ≤ mostPrinted
+jobs-fit tool n l kept h =
     omega (
       arith,
-      job-most n (judgedJob l kept) (picked 1 l kept) (omega arith) (job-small l kept .count) (omega (arith, job-place-small l kept)),
+      job-most tool n (judgedJob l kept) (picked 1 l kept) (omega arith) (job-small l kept .count) (omega (arith, job-place-small l kept)),
     )
 
 header-refused-short : length (noLine 0 12 0) ≤ 67
@@ -86,23 +87,23 @@ end-short theDefaults = defaults-refused-short 0 (omega arith)
 end-short (aJob kept n) = omega arith
 end-short nothing = omega arith
 
-header-short : (l : List ℕ) → length (linePrints theHeader l) ≤ 67
+header-short : (tool : Tool) (l : List ℕ) → length (linePrints tool theHeader l) ≤ 67
 unfolding linePrints
-header-short l = picks (λ (s : List ℕ). length s ≤ 67) (isHeader l) (λ _. omega arith) (λ _. header-refused-short)
+header-short tool l = picks (λ (s : List ℕ). length s ≤ 67) (isHeader l) (λ _. omega arith) (λ _. header-refused-short)
 
-defaults-short : (l : List ℕ) → length (linePrints theDefaults l) ≤ 67
+defaults-short : (tool : Tool) (l : List ℕ) → length (linePrints tool theDefaults l) ≤ 67
 unfolding linePrints
-defaults-short l =
+defaults-short tool l =
     picks (λ (s : List ℕ). length s ≤ 67) (judgedDefaults l .ok) (λ _. omega arith)
     (λ _. defaults-refused-short (judgedDefaults l .place) (defaults-place-small l))
 
-module _ (n kept : ℕ) (l buffer : List ℕ) (h : n < 2 ^ 64 - 1) where
+module _ (tool : Tool) (n kept : ℕ) (l buffer : List ℕ) (h : n < 2 ^ 64 - 1) where
   line-fits : (a : Awaited)
-      → length (linePrints (awaitedBy a n kept buffer) l) + length (endPrints (afterLine (awaitedBy a n kept buffer) l)) ≤ mostPrinted
+      → length (linePrints tool (awaitedBy a n kept buffer) l) + length (endPrints (afterLine (awaitedBy a n kept buffer) l)) ≤ mostPrinted
   unfolding linePrints afterLine endPrints
-  line-fits Header = omega (arith, header-short l, end-short (afterLine theHeader l))
-  line-fits Defaults = omega (arith, defaults-short l, end-short (afterLine theDefaults l))
-  line-fits Job = omega (arith, jobs-fit n l (take kept buffer) h)
+  line-fits Header = omega (arith, header-short tool l, end-short (afterLine theHeader l))
+  line-fits Defaults = omega (arith, defaults-short tool l, end-short (afterLine theDefaults l))
+  line-fits Job = omega (arith, jobs-fit tool n l (take kept buffer) h)
   line-fits Nothing = omega arith
 
 -- ---- a call
@@ -110,22 +111,22 @@ abbrev OutFits : Buffers → Outcome → Type 0
 OutFits b o = (o .answer .wrote ≤ length (b .out)) × (length (o .buffers .out) ≡ length (b .out))
 
 -- A line's.
-module _ (p : Progress) (b : Buffers) (r : Ready p b) (l : List ℕ) where
+module _ (tool : Tool) (p : Progress) (b : Buffers) (r : Ready p b) (l : List ℕ) where
   abbrev prints : List ℕ
-  prints = linePrints (awaits p (b .defaults)) l
+  prints = linePrints tool (awaits p (b .defaults)) l
 
   line-room : length prints + length (endPrints (afterLine (awaits p (b .defaults)) l)) ≤ length (b .out)
-  line-room = omega (arith, line-fits (p .number) (p .kept) l (b .defaults) (r .number) (p .awaited), r .out)
+  line-room = omega (arith, line-fits tool (p .number) (p .kept) l (b .defaults) (r .number) (p .awaited), r .out)
 
-  line-out : (used : ℕ) → OutFits b (lineStep p l used b)
+  line-out : (used : ℕ) → OutFits b (lineStep tool p l used b)
   line-out used = (omega (arith, line-room), length-over prints (b .out) (omega (arith, line-room)))
 
 -- What an accepted call writes fits the lent output.
-pub step-out-fits : (p : Progress) (input : List ℕ) (b : Buffers) → ready p b ≡ true
-    → (stepped p input b .answer .wrote ≤ length (b .out)) × (length (stepped p input b .buffers .out) ≡ length (b .out))
-step-out-fits p input b e =
-    by-step (OutFits b) p b e input
-    (λ _. line-out p b (is-ready p b e) (heldWith (p .held) (b .line) (before lineFeed input)) (length (before lineFeed input) + 1))
+pub step-out-fits : (tool : Tool) (p : Progress) (input : List ℕ) (b : Buffers) → ready p b ≡ true
+    → (stepped tool p input b .answer .wrote ≤ length (b .out)) × (length (stepped tool p input b .buffers .out) ≡ length (b .out))
+step-out-fits tool p input b e =
+    by-step tool (OutFits b) p b e input
+    (λ _. line-out tool p b (is-ready p b e) (heldWith (p .held) (b .line) (before lineFeed input)) (length (before lineFeed input) + 1))
     (λ _. (omega arith, refl))
 
 -- The end's.
@@ -151,14 +152,14 @@ end-out b o h e = (h, long)
           length-take w (o .buffers .out),
         )
 
-pub end-out-fits : (p : Progress) (b : Buffers) → ready p b ≡ true
-    → (finished p b .answer .wrote ≤ length (b .out)) × (length (finished p b .buffers .out) ≡ length (b .out))
-end-out-fits p b e =
-    by-end (OutFits b) p b e
+pub end-out-fits : (tool : Tool) (p : Progress) (b : Buffers) → ready p b ≡ true
+    → (finished tool p b .answer .wrote ≤ length (b .out)) × (length (finished tool p b .buffers .out) ≡ length (b .out))
+end-out-fits tool p b e =
+    by-end tool (OutFits b) p b e
     (λ _. end-out b (stays p b) (omega (arith, end-short (awaits p (b .defaults)), is-ready p b e .out)) refl)
-    (λ _. end-out b (lineStep p l 0 b)
-    (rw (line-awaits (p .number) (p .kept) l (b .defaults) (p .awaited)) (line-room p b (is-ready p b e) l))
-    (line-out p b (is-ready p b e) l 0 .1))
+    (λ _. end-out b (lineStep tool p l 0 b)
+    (rw (line-awaits (p .number) (p .kept) l (b .defaults) (p .awaited)) (line-room tool p b (is-ready p b e) l))
+    (line-out tool p b (is-ready p b e) l 0 .1))
   where
     l : List ℕ
     l = take (p .held) (b .line)
@@ -187,13 +188,13 @@ refused-within p input b = record {
   out = refl;
 }
 
-pub step-within : (p : Progress) {input : List ℕ} {b : Buffers} {o : Outcome} → o ≡ stepped p input b → Within input b o
-step-within p {input} {b} is = subst (λ o. Within input b o) (sym is) (go (ready p b) refl)
+pub step-within : (tool : Tool) (p : Progress) {input : List ℕ} {b : Buffers} {o : Outcome} → o ≡ stepped tool p input b → Within input b o
+step-within tool p {input} {b} is = subst (λ o. Within input b o) (sym is) (go (ready p b) refl)
   where
-    go : (t : Bool) → ready p b ≡ t → Within input b (stepped p input b)
+    go : (t : Bool) → ready p b ≡ t → Within input b (stepped tool p input b)
     go true e =
-        let done = step-done p input b e in
-        let fits = step-out-fits p input b e in
+        let done = step-done tool p input b e in
+        let fits = step-out-fits tool p input b e in
         record {
           used = done .within;
           moves = λ _. done .moves;
@@ -204,15 +205,15 @@ step-within p {input} {b} is = subst (λ o. Within input b o) (sym is) (go (read
           table = done .table;
           out = fits .1;
         }
-    go false e = subst (λ o. Within input b o) (sym (refused-step p input b e)) (refused-within p input b)
+    go false e = subst (λ o. Within input b o) (sym (refused-step tool p input b e)) (refused-within p input b)
 
-pub end-within : (p : Progress) {b : Buffers} {o : Outcome} → o ≡ finished p b → Within [] b o
-end-within p {b} is = subst (λ o. Within [] b o) (sym is) (go (ready p b) refl)
+pub end-within : (tool : Tool) (p : Progress) {b : Buffers} {o : Outcome} → o ≡ finished tool p b → Within [] b o
+end-within tool p {b} is = subst (λ o. Within [] b o) (sym is) (go (ready p b) refl)
   where
-    go : (t : Bool) → ready p b ≡ t → Within [] b (finished p b)
+    go : (t : Bool) → ready p b ≡ t → Within [] b (finished tool p b)
     go true e =
-        let done = end-done p b e in
-        let fits = end-out-fits p b e in
+        let done = end-done tool p b e in
+        let fits = end-out-fits tool p b e in
         record {
           used = omega (arith, done .uses);
           moves = λ _ none. absurd (omega arith);
@@ -223,4 +224,4 @@ end-within p {b} is = subst (λ o. Within [] b o) (sym is) (go (ready p b) refl)
           table = done .table;
           out = fits .1;
         }
-    go false e = subst (λ o. Within [] b o) (sym (refused-end p b e)) (refused-within p [] b)
+    go false e = subst (λ o. Within [] b o) (sym (refused-end tool p b e)) (refused-within p [] b)

@@ -11,6 +11,7 @@ use Rattle.plan.specs.Measures.{planLength}
 use Rattle.formula.specs.Refusals.{count}
 use Rattle.fold.proofs.Rules.{picked as picks}
 use Rattle.table.specs.Parts.{lineFeed, before}
+use Rattle.table.specs.declared.Tool.{Tool}
 use Rattle.table_progress.specs.declared.Progress.{Progress}
 use Rattle.table_progress.specs.Steps.{Buffers, mostPrinted, haveRoom, isWithinBounds, ready, heldWith}
 use Rattle.table_progress.specs.Steps.{Outcome, refusedStep, lineStep, partStep, stepped, stays, withEnd, finished}
@@ -63,13 +64,13 @@ makes-ready p b r =
     (both _ _ (le-leb (p .kept) 4096 (r .kept)) (lt-ltb (p .number) (2 ^ 64 - 1) (r .number))))
 
 -- ---- the ways through a step and through the end
-module _ (P : Outcome → Type 0) (p : Progress) (b : Buffers) (isReady : ready p b ≡ true) where
+module _ (tool : Tool) (P : Outcome → Type 0) (p : Progress) (b : Buffers) (isReady : ready p b ≡ true) where
   not-refused : {A : Type 0} → ready p b ≡ false → A
   not-refused e = absurd (false≢true (sym e ∙ isReady))
 
   pub by-step : (input : List ℕ)
-      → (0 < count lineFeed input → P (lineStep p (heldWith (p .held) (b .line) (before lineFeed input)) (length (before lineFeed input) + 1) b))
-      → (count lineFeed input ≡ 0 → P (partStep p (heldWith (p .held) (b .line) input) (length input) b)) → P (stepped p input b)
+      → (0 < count lineFeed input → P (lineStep tool p (heldWith (p .held) (b .line) (before lineFeed input)) (length (before lineFeed input) + 1) b))
+      → (count lineFeed input ≡ 0 → P (partStep p (heldWith (p .held) (b .line) input) (length input) b)) → P (stepped tool p input b)
   unfolding stepped
   by-step input line part =
       picks P (ready p b)
@@ -77,7 +78,7 @@ module _ (P : Outcome → Type 0) (p : Progress) (b : Buffers) (isReady : ready 
       (λ e. part (omega (arith, ltb-false 0 (count lineFeed input) e))))
       not-refused
 
-  pub by-end : (p .held ≡ 0 → P (withEnd (stays p b))) → (0 < p .held → P (withEnd (lineStep p (take (p .held) (b .line)) 0 b))) → P (finished p b)
+  pub by-end : (p .held ≡ 0 → P (withEnd (stays p b))) → (0 < p .held → P (withEnd (lineStep tool p (take (p .held) (b .line)) 0 b))) → P (finished tool p b)
   unfolding finished
   by-end none some =
       picks P (ready p b)
@@ -88,40 +89,40 @@ module _ (P : Outcome → Type 0) (p : Progress) (b : Buffers) (isReady : ready 
       positive zero h = absurd (h refl)
       positive (suc n) h = omega arith
 
-pub refused-step : (p : Progress) (input : List ℕ) (b : Buffers) → ready p b ≡ false → stepped p input b ≡ refusedStep p b
+pub refused-step : (tool : Tool) (p : Progress) (input : List ℕ) (b : Buffers) → ready p b ≡ false → stepped tool p input b ≡ refusedStep p b
 unfolding stepped
-refused-step p input b e = rw e
+refused-step tool p input b e = rw e
 
-pub refused-end : (p : Progress) (b : Buffers) → ready p b ≡ false → finished p b ≡ refusedStep p b
+pub refused-end : (tool : Tool) (p : Progress) (b : Buffers) → ready p b ≡ false → finished tool p b ≡ refusedStep p b
 unfolding finished
-refused-end p b e = rw e
+refused-end tool p b e = rw e
 
 -- A call that is accepted was ready.
-pub step-was-ready : (p : Progress) (input : List ℕ) (b : Buffers) → stepped p input b .answer .ok ≡ true → ready p b ≡ true
-step-was-ready p input b ok = go (ready p b) refl
+pub step-was-ready : (tool : Tool) (p : Progress) (input : List ℕ) (b : Buffers) → stepped tool p input b .answer .ok ≡ true → ready p b ≡ true
+step-was-ready tool p input b ok = go (ready p b) refl
   where
     go : (t : Bool) → ready p b ≡ t → t ≡ true
     go true e = refl
-    go false e = sym (ap (λ o. o .answer .ok) (refused-step p input b e)) ∙ ok
+    go false e = sym (ap (λ o. o .answer .ok) (refused-step tool p input b e)) ∙ ok
 
-pub end-was-ready : (p : Progress) (b : Buffers) → finished p b .answer .ok ≡ true → ready p b ≡ true
-end-was-ready p b ok = go (ready p b) refl
+pub end-was-ready : (tool : Tool) (p : Progress) (b : Buffers) → finished tool p b .answer .ok ≡ true → ready p b ≡ true
+end-was-ready tool p b ok = go (ready p b) refl
   where
     go : (t : Bool) → ready p b ≡ t → t ≡ true
     go true e = refl
-    go false e = sym (ap (λ o. o .answer .ok) (refused-end p b e)) ∙ ok
+    go false e = sym (ap (λ o. o .answer .ok) (refused-end tool p b e)) ∙ ok
 
 -- A call that is not done leaves everything as it was.
-pub step-undone : (p : Progress) (input : List ℕ) (b : Buffers) → stepped p input b .answer .ok ≡ false → stepped p input b ≡ refusedStep p b
-step-undone p input b undone = go (ready p b) refl
+pub step-undone : (tool : Tool) (p : Progress) (input : List ℕ) (b : Buffers) → stepped tool p input b .answer .ok ≡ false → stepped tool p input b ≡ refusedStep p b
+step-undone tool p input b undone = go (ready p b) refl
   where
-    go : (t : Bool) → ready p b ≡ t → stepped p input b ≡ refusedStep p b
-    go true e = absurd (false≢true (sym undone ∙ by-step (λ o. o .answer .ok ≡ true) p b e input (λ _. refl) (λ _. refl)))
-    go false e = refused-step p input b e
+    go : (t : Bool) → ready p b ≡ t → stepped tool p input b ≡ refusedStep p b
+    go true e = absurd (false≢true (sym undone ∙ by-step tool (λ o. o .answer .ok ≡ true) p b e input (λ _. refl) (λ _. refl)))
+    go false e = refused-step tool p input b e
 
-pub end-undone : (p : Progress) (b : Buffers) → finished p b .answer .ok ≡ false → finished p b ≡ refusedStep p b
-end-undone p b undone = go (ready p b) refl
+pub end-undone : (tool : Tool) (p : Progress) (b : Buffers) → finished tool p b .answer .ok ≡ false → finished tool p b ≡ refusedStep p b
+end-undone tool p b undone = go (ready p b) refl
   where
-    go : (t : Bool) → ready p b ≡ t → finished p b ≡ refusedStep p b
-    go true e = absurd (false≢true (sym undone ∙ by-end (λ o. o .answer .ok ≡ true) p b e (λ _. refl) (λ _. refl)))
-    go false e = refused-end p b e
+    go : (t : Bool) → ready p b ≡ t → finished tool p b ≡ refusedStep p b
+    go true e = absurd (false≢true (sym undone ∙ by-end tool (λ o. o .answer .ok ≡ true) p b e (λ _. refl) (λ _. refl)))
+    go false e = refused-end tool p b e

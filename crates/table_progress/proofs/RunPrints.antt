@@ -11,74 +11,76 @@ use Rattle.table.specs.Judged.{isHeader, judgedDefaults, judgedJob}
 use Rattle.table.specs.Lines.{noLine}
 use Rattle.table.specs.Run.{JobPrints, line-refused, formula-refused, formula-accepted, JobsPrint, no-job, next-job}
 use Rattle.table.specs.Run.{LinesPrint, header-absent, header-refused, defaults-absent, defaults-refused, jobs-follow, RunPrints}
+use Rattle.table.specs.declared.Tool.{Tool}
 use Rattle.table_progress.specs.Printed.{jobPrints}
 use Rattle.table_progress.specs.Run.{theHeader, aJob, nothing, linePrints, afterLine, endPrints, linesPrint, run}
-use Rattle.table_progress.proofs.Jobs.{prints-bad-line, prints-refused, prints-accepted}
+use Rattle.table_progress.proofs.Jobs.{tool-said, prints-bad-line, prints-refused, prints-accepted}
 
 -- ---- every input has an output
-module _ (n : ℕ) (line defaults : List ℕ) where
-  job-prints : (output : List ℕ) × JobPrints n line defaults output
+module _ (tool : Tool) (n : ℕ) (line defaults : List ℕ) where
+  job-prints : (output : List ℕ) × JobPrints tool n line defaults output
   job-prints = go (judgedJob line defaults .ok) refl
     where
-      taken : judgedJob line defaults .ok ≡ true → {v : Verdict} → Right (picked 1 line defaults) v → (output : List ℕ) × JobPrints n line defaults output
+      taken : judgedJob line defaults .ok ≡ true → {v : Verdict} → Right (picked 1 line defaults) v → (output : List ℕ) × JobPrints tool n line defaults output
       taken e (right-refused A) = (_, formula-refused e A)
-      taken e (right-accepted A) = (_, formula-accepted e A)
+      taken e (right-accepted A) = (_, formula-accepted _ e A (tool-said (judgedJob line defaults) A tool))
 
-      go : (t : Bool) → judgedJob line defaults .ok ≡ t → (output : List ℕ) × JobPrints n line defaults output
+      go : (t : Bool) → judgedJob line defaults .ok ≡ t → (output : List ℕ) × JobPrints tool n line defaults output
       go true e = taken e (verdict-right (picked 1 line defaults))
       go false e = (_, line-refused e)
 
-jobs-print : (defaults : List ℕ) (n : ℕ) (ls : List (List ℕ)) → (output : List ℕ) × JobsPrint defaults n ls output
-jobs-print defaults n [] = (_, no-job)
-jobs-print defaults n (line ∷ more) =
-    let (printed, A) = job-prints n line defaults in
-    let (later, B) = jobs-print defaults (suc n) more in
+jobs-print : (tool : Tool) (defaults : List ℕ) (n : ℕ) (ls : List (List ℕ)) → (output : List ℕ) × JobsPrint tool defaults n ls output
+jobs-print tool defaults n [] = (_, no-job)
+jobs-print tool defaults n (line ∷ more) =
+    let (printed, A) = job-prints tool n line defaults in
+    let (later, B) = jobs-print tool defaults (suc n) more in
     (_, next-job printed later A B)
 
-lines-print : (ls : List (List ℕ)) → (output : List ℕ) × LinesPrint ls output
-lines-print [] = (_, header-absent)
-lines-print (header ∷ more) = go (isHeader header) refl more
+lines-print : (tool : Tool) (ls : List (List ℕ)) → (output : List ℕ) × LinesPrint tool ls output
+lines-print tool [] = (_, header-absent)
+lines-print tool (header ∷ more) = go (isHeader header) refl more
   where
     behind : isHeader header ≡ true → (defaults : List ℕ) (more : List (List ℕ)) (t : Bool) → judgedDefaults defaults .ok ≡ t
-        → (output : List ℕ) × LinesPrint (header ∷ defaults ∷ more) output
-    behind e defaults more true f = let (output, A) = jobs-print defaults 1 more in (output, jobs-follow e f A)
+        → (output : List ℕ) × LinesPrint tool (header ∷ defaults ∷ more) output
+    behind e defaults more true f = let (output, A) = jobs-print tool defaults 1 more in (output, jobs-follow e f A)
     behind e defaults more false f = (_, defaults-refused e f)
 
-    go : (t : Bool) → isHeader header ≡ t → (more : List (List ℕ)) → (output : List ℕ) × LinesPrint (header ∷ more) output
+    go : (t : Bool) → isHeader header ≡ t → (more : List (List ℕ)) → (output : List ℕ) × LinesPrint tool (header ∷ more) output
     go false e more = (_, header-refused e)
     go true e [] = (_, defaults-absent e)
     go true e (defaults ∷ more) = behind e defaults more (judgedDefaults defaults .ok) refl
 
 -- ---- and it is the one that is computed
-job-only : {n : ℕ} {line defaults output : List ℕ} → JobPrints n line defaults output → output ≡ jobPrints n line defaults
-job-only {n} {line} {defaults} (line-refused e) = sym (prints-bad-line n (judgedJob line defaults) (picked 1 line defaults) e)
-job-only {n} {line} {defaults} (formula-refused e A) = sym (prints-refused n (judgedJob line defaults) (picked 1 line defaults) e A)
-job-only {n} {line} {defaults} (formula-accepted e A) = sym (prints-accepted n (judgedJob line defaults) (picked 1 line defaults) e A)
+job-only : (tool : Tool) {n : ℕ} {line defaults output : List ℕ} → JobPrints tool n line defaults output → output ≡ jobPrints tool n line defaults
+job-only tool {n} {line} {defaults} (line-refused e) = sym (prints-bad-line tool n (judgedJob line defaults) (picked 1 line defaults) e)
+job-only tool {n} {line} {defaults} (formula-refused e A) = sym (prints-refused tool n (judgedJob line defaults) (picked 1 line defaults) e A)
+job-only tool {n} {line} {defaults} (formula-accepted printed e A prints) =
+    sym (prints-accepted tool n (judgedJob line defaults) (picked 1 line defaults) e A prints)
 
-jobs-only : {defaults output : List ℕ} {n : ℕ} {ls : List (List ℕ)} → JobsPrint defaults n ls output → output ≡ linesPrint (aJob defaults n) ls
+jobs-only : (tool : Tool) {defaults output : List ℕ} {n : ℕ} {ls : List (List ℕ)} → JobsPrint tool defaults n ls output → output ≡ linesPrint tool (aJob defaults n) ls
 unfolding linePrints afterLine endPrints linesPrint
-jobs-only no-job = refl
-jobs-only (next-job printed later A more) = ap₂ _++_ (job-only A) (jobs-only more)
+jobs-only tool no-job = refl
+jobs-only tool (next-job printed later A more) = ap₂ _++_ (job-only tool A) (jobs-only tool more)
 
 -- Nothing is printed behind a refused header or defaults line.
-silent : (ls : List (List ℕ)) → linesPrint nothing ls ≡ []
+silent : (tool : Tool) (ls : List (List ℕ)) → linesPrint tool nothing ls ≡ []
 unfolding linePrints afterLine endPrints linesPrint
-silent [] = refl
-silent (line ∷ more) = silent more
+silent tool [] = refl
+silent tool (line ∷ more) = silent tool more
 
-ended : (s : List ℕ) (ls : List (List ℕ)) → s ≡ s ++ linesPrint nothing ls
-ended s ls = sym (ap (λ r. s ++ r) (silent ls) ∙ append-nil s)
+ended : (tool : Tool) (s : List ℕ) (ls : List (List ℕ)) → s ≡ s ++ linesPrint tool nothing ls
+ended tool s ls = sym (ap (λ r. s ++ r) (silent tool ls) ∙ append-nil s)
 
-lines-only : {ls : List (List ℕ)} {output : List ℕ} → LinesPrint ls output → output ≡ linesPrint theHeader ls
+lines-only : (tool : Tool) {ls : List (List ℕ)} {output : List ℕ} → LinesPrint tool ls output → output ≡ linesPrint tool theHeader ls
 unfolding linePrints afterLine endPrints linesPrint
-lines-only header-absent = refl
-lines-only (header-refused {more = more} e) = rw e (ended (noLine 0 12 0) more)
-lines-only (defaults-absent e) = rw e
-lines-only (defaults-refused {defaults = defaults} {more} e f) = rw (e, f) (ended (noLine 0 11 (judgedDefaults defaults .place)) more)
-lines-only (jobs-follow e f jobs) = rw (e, f) (jobs-only jobs)
+lines-only tool header-absent = refl
+lines-only tool (header-refused {more = more} e) = rw e (ended tool (noLine 0 12 0) more)
+lines-only tool (defaults-absent e) = rw e
+lines-only tool (defaults-refused {defaults = defaults} {more} e f) = rw (e, f) (ended tool (noLine 0 11 (judgedDefaults defaults .place)) more)
+lines-only tool (jobs-follow e f jobs) = rw (e, f) (jobs-only tool jobs)
 
-pub run-only : (input : List ℕ) {output : List ℕ} → RunPrints input output → output ≡ run input
-run-only input = lines-only
+pub run-only : (tool : Tool) (input : List ℕ) {output : List ℕ} → RunPrints tool input output → output ≡ run tool input
+run-only tool input = lines-only tool
 
-pub run-prints : (input : List ℕ) → RunPrints input (run input)
-run-prints input = let (output, A) = lines-print (lines input) in subst (RunPrints input) (run-only input A) A
+pub run-prints : (tool : Tool) (input : List ℕ) → RunPrints tool input (run tool input)
+run-prints tool input = let (output, A) = lines-print tool (lines input) in subst (RunPrints tool input) (run-only tool input A) A

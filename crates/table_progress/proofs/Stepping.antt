@@ -9,6 +9,7 @@ use lib.ListN.{length, take, drop, length-append, length-take}
 use lib.Seq.{length-take-le, take-append-seam, take-at, drop-length}
 use Rattle.formula.specs.Refusals.{count}
 use Rattle.table.specs.Parts.{lineFeed, before}
+use Rattle.table.specs.declared.Tool.{Tool}
 use Rattle.table.proofs.PartsFound.{empty-some}
 use Rattle.table.proofs.PartsInLines.{some-counted}
 use Rattle.table_progress.specs.declared.Progress.{Progress}
@@ -22,12 +23,12 @@ use Rattle.table_progress.proofs.Readiness.{Ready, is-ready, by-step, b
 use Rattle.table_progress.proofs.WholeLines.{line-awaits, line-held, line-kept, line-number, length-over, length-defaults, length-plan-after, length-table-after}
 
 -- What a run that stands at p, with these buffers, prints for the rest of its input.
-abbrev pub remaining : Progress → (line defaults : List ℕ) → List ℕ → List ℕ
-remaining p line defaults rest = scan (awaits p defaults) (take (p .held) line) rest
+abbrev pub remaining : Tool → Progress → (line defaults : List ℕ) → List ℕ → List ℕ
+remaining tool p line defaults rest = scan tool (awaits p defaults) (take (p .held) line) rest
 
 -- Where an outcome leaves the run.
-abbrev pub remainingAfter : Outcome → List ℕ → List ℕ
-remainingAfter o rest = remaining (o .answer .progress) (o .buffers .line) (o .buffers .defaults) rest
+abbrev pub remainingAfter : Tool → Outcome → List ℕ → List ℕ
+remainingAfter tool o rest = remaining tool (o .answer .progress) (o .buffers .line) (o .buffers .defaults) rest
 
 -- ---- the first line feed of an input is one of them
 pub feed-counted : (s : List ℕ) → 0 < count lineFeed s → count lineFeed (drop (length (before lineFeed s) + 1) s) + 1 ≡ count lineFeed s
@@ -46,7 +47,7 @@ feed-counted (c ∷ s) h = go (eqb c lineFeed) h (feed-counted s)
 
 -- ---- a step
 -- What is so of every accepted step.
-pub record StepDone (p : Progress) (input : List ℕ) (b : Buffers) (o : Outcome) : Type 0 where
+pub record StepDone (tool : Tool) (p : Progress) (input : List ℕ) (b : Buffers) (o : Outcome) : Type 0 where
   pub accepted : o .answer .ok ≡ true
   pub within : o .answer .used ≤ length input
   pub moves : 0 < length input → 0 < o .answer .used
@@ -60,9 +61,9 @@ pub record StepDone (p : Progress) (input : List ℕ) (b : Buffers) (o : Outcome
   pub table : length (o .buffers .table) ≡ length (b .table)
   -- What is written and then what remains is what remained, whatever the rest of the input is.
   pub prints : (rest : List ℕ)
-      → remaining p (b .line) (b .defaults) (input ++ rest) ≡ written o ++ remainingAfter o (drop (o .answer .used) input ++ rest)
+      → remaining tool p (b .line) (b .defaults) (input ++ rest) ≡ written o ++ remainingAfter tool o (drop (o .answer .used) input ++ rest)
 
-module _ (p : Progress) (input : List ℕ) (b : Buffers) (r : Ready p b) where
+module _ (tool : Tool) (p : Progress) (input : List ℕ) (b : Buffers) (r : Ready p b) where
   abbrev now : Awaits
   now = awaits p (b .defaults)
 
@@ -78,13 +79,13 @@ module _ (p : Progress) (input : List ℕ) (b : Buffers) (r : Ready p b) where
     part = heldWith (p .held) (b .line) input
 
     part-prints : (rest : List ℕ)
-        → scan now under-way (input ++ rest) ≡ scan now (take (length part) (over part (b .line))) (drop (length input) input ++ rest)
+        → scan tool now under-way (input ++ rest) ≡ scan tool now (take (length part) (over part (b .line))) (drop (length input) input ++ rest)
     part-prints rest =
-        scan-part now under-way input rest none
-        ∙ sym (first-bytes-scan now (under-way ++ input) rest)
-        ∙ ap₂ (λ h s. scan now h (s ++ rest)) (sym (take-append-seam part (drop (length part) (b .line)))) (sym (drop-length input))
+        scan-part tool now under-way input rest none
+        ∙ sym (first-bytes-scan tool now (under-way ++ input) rest)
+        ∙ ap₂ (λ h s. scan tool now h (s ++ rest)) (sym (take-append-seam part (drop (length part) (b .line)))) (sym (drop-length input))
 
-    part-done : StepDone p input b (partStep p part (length input) b)
+    part-done : StepDone tool p input b (partStep p part (length input) b)
     unfolding count
     part-done = record {
       accepted = refl;
@@ -109,20 +110,20 @@ module _ (p : Progress) (input : List ℕ) (b : Buffers) (r : Ready p b) where
     used-now = length (before lineFeed input) + 1
 
     line-prints : (rest : List ℕ)
-        → scan now under-way (input ++ rest) ≡ written (lineStep p line-now used-now b)
-        ++ remainingAfter (lineStep p line-now used-now b) (drop used-now input ++ rest)
+        → scan tool now under-way (input ++ rest) ≡ written (lineStep tool p line-now used-now b)
+        ++ remainingAfter tool (lineStep tool p line-now used-now b) (drop used-now input ++ rest)
     line-prints rest =
-        scan-line now under-way input rest some
-        ∙ ap₂ (λ x a. x ++ scan a [] (drop used-now input ++ rest))
-        (sym (first-bytes-print now whole)) (sym (first-bytes-after now whole) ∙ sym (line-awaits (p .number) (p .kept) line-now (b .defaults) (p .awaited)))
-        ∙ ap₂ (λ x h. x ++ scan (awaits (progressAfter p line-now) (defaultsAfter now line-now (b .defaults))) h (drop used-now input ++ rest))
-        (sym (take-append-seam (linePrints now line-now) (drop (length (linePrints now line-now)) (b .out))))
+        scan-line tool now under-way input rest some
+        ∙ ap₂ (λ x a. x ++ scan tool a [] (drop used-now input ++ rest))
+        (sym (first-bytes-print tool now whole)) (sym (first-bytes-after now whole) ∙ sym (line-awaits (p .number) (p .kept) line-now (b .defaults) (p .awaited)))
+        ∙ ap₂ (λ x h. x ++ scan tool (awaits (progressAfter p line-now) (defaultsAfter now line-now (b .defaults))) h (drop used-now input ++ rest))
+        (sym (take-append-seam (linePrints tool now line-now) (drop (length (linePrints tool now line-now)) (b .out))))
         (ap (λ n. take n (over line-now (b .line))) (sym (line-held (p .number) (p .kept) line-now (b .defaults) (p .awaited))))
       where
         whole : List ℕ
         whole = under-way ++ before lineFeed input
 
-    line-done : StepDone p input b (lineStep p line-now used-now b)
+    line-done : StepDone tool p input b (lineStep tool p line-now used-now b)
     line-done = record {
       accepted = refl;
       within = omega (arith, some-counted lineFeed input some);
@@ -132,17 +133,17 @@ module _ (p : Progress) (input : List ℕ) (b : Buffers) (r : Ready p b) where
       counted = omega (arith, line-number (p .number) (p .kept) line-now (b .defaults) (p .awaited), feed-counted input some);
       line = length-over line-now (b .line) (omega (arith, few (before lineFeed input), r .line));
       defaults = length-defaults now line-now (b .defaults) (r .defaults);
-      plan = length-plan-after now line-now (b .plan) (r .plan);
-      table = length-table-after now line-now (b .table) (r .table);
+      plan = length-plan-after tool now line-now (b .plan) (r .plan);
+      table = length-table-after tool now line-now (b .table) (r .table);
       prints = line-prints;
     }
 
-pub step-done : (p : Progress) (input : List ℕ) (b : Buffers) → ready p b ≡ true → StepDone p input b (stepped p input b)
-step-done p input b e =
-    by-step (StepDone p input b) p b e input (λ some. line-done p input b (is-ready p b e) some) (λ none. part-done p input b (is-ready p b e) none)
+pub step-done : (tool : Tool) (p : Progress) (input : List ℕ) (b : Buffers) → ready p b ≡ true → StepDone tool p input b (stepped tool p input b)
+step-done tool p input b e =
+    by-step tool (StepDone tool p input b) p b e input (λ some. line-done tool p input b (is-ready p b e) some) (λ none. part-done tool p input b (is-ready p b e) none)
 
 -- ---- the end of the input
-pub record EndDone (p : Progress) (b : Buffers) (o : Outcome) : Type 0 where
+pub record EndDone (tool : Tool) (p : Progress) (b : Buffers) (o : Outcome) : Type 0 where
   pub accepted : o .answer .ok ≡ true
   pub ends : o .answer .progress ≡ ended
   pub uses : o .answer .used ≡ 0
@@ -150,22 +151,22 @@ pub record EndDone (p : Progress) (b : Buffers) (o : Outcome) : Type 0 where
   pub defaults : length (o .buffers .defaults) ≡ length (b .defaults)
   pub plan : length (o .buffers .plan) ≡ length (b .plan)
   pub table : length (o .buffers .table) ≡ length (b .table)
-  pub prints : written o ≡ remaining p (b .line) (b .defaults) []
+  pub prints : written o ≡ remaining tool p (b .line) (b .defaults) []
 
 behind-written : (t s rest : List ℕ) (w : ℕ) → length t ≡ w → take (w + length s) (t ++ (s ++ rest)) ≡ t ++ s
 behind-written t s rest w e =
     ap (λ l. take (w + length s) l) (sym (append-assoc t s rest))
     ∙ take-at (t ++ s) rest (w + length s) (length-append t s ∙ ap (λ n. n + length s) e)
 
-module _ (p : Progress) (b : Buffers) (r : Ready p b) where
+module _ (tool : Tool) (p : Progress) (b : Buffers) (r : Ready p b) where
   abbrev here : Awaits
   here = awaits p (b .defaults)
 
-  none-held : p .held ≡ 0 → written (withEnd (stays p b)) ≡ remaining p (b .line) (b .defaults) []
+  none-held : p .held ≡ 0 → written (withEnd (stays p b)) ≡ remaining tool p (b .line) (b .defaults) []
   unfolding scan
-  none-held e = behind-written [] (endPrints here) _ 0 refl ∙ ap (λ n. scan here (take n (b .line)) []) (sym e)
+  none-held e = behind-written [] (endPrints here) _ 0 refl ∙ ap (λ n. scan tool here (take n (b .line)) []) (sym e)
 
-  stays-done : p .held ≡ 0 → EndDone p b (withEnd (stays p b))
+  stays-done : p .held ≡ 0 → EndDone tool p b (withEnd (stays p b))
   stays-done none = record {
     accepted = refl;
     ends = refl;
@@ -184,7 +185,7 @@ module _ (p : Progress) (b : Buffers) (r : Ready p b) where
   length-last-line : length last-line ≡ p .held
   length-last-line = length-take-le (p .held) (b .line) (omega (arith, r .held, r .line))
 
-  some-held : 0 < p .held → written (withEnd (lineStep p last-line 0 b)) ≡ remaining p (b .line) (b .defaults) []
+  some-held : 0 < p .held → written (withEnd (lineStep tool p last-line 0 b)) ≡ remaining tool p (b .line) (b .defaults) []
   unfolding scan
   some-held h =
       ap (λ x. take (length prints + length last) (x ++ (last ++ drop (length prints + length last) (over prints (b .out)))))
@@ -194,22 +195,22 @@ module _ (p : Progress) (b : Buffers) (r : Ready p b) where
       ∙ ap (λ t. cond t (endPrints here) (prints ++ endPrints (afterLine here last-line))) (sym (empty-some last-line (λ e. omega (arith, length-last-line))))
     where
       prints : List ℕ
-      prints = linePrints here last-line
+      prints = linePrints tool here last-line
 
       last : List ℕ
       last = endPrints (awaits (progressAfter p last-line) (defaultsAfter here last-line (b .defaults)))
 
-  last-line-done : 0 < p .held → EndDone p b (withEnd (lineStep p last-line 0 b))
+  last-line-done : 0 < p .held → EndDone tool p b (withEnd (lineStep tool p last-line 0 b))
   last-line-done some = record {
     accepted = refl;
     ends = refl;
     uses = refl;
     line = length-over last-line (b .line) (omega (arith, length-last-line, r .held, r .line));
     defaults = length-defaults here last-line (b .defaults) (r .defaults);
-    plan = length-plan-after here last-line (b .plan) (r .plan);
-    table = length-table-after here last-line (b .table) (r .table);
+    plan = length-plan-after tool here last-line (b .plan) (r .plan);
+    table = length-table-after tool here last-line (b .table) (r .table);
     prints = some-held some;
   }
 
-pub end-done : (p : Progress) (b : Buffers) → ready p b ≡ true → EndDone p b (finished p b)
-end-done p b e = by-end (EndDone p b) p b e (stays-done p b (is-ready p b e)) (last-line-done p b (is-ready p b e))
+pub end-done : (tool : Tool) (p : Progress) (b : Buffers) → ready p b ≡ true → EndDone tool p b (finished tool p b)
+end-done tool p b e = by-end tool (EndDone tool p b) p b e (stays-done tool p b (is-ready p b e)) (last-line-done tool p b (is-ready p b e))

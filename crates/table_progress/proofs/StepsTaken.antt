@@ -14,6 +14,7 @@ use Rattle.plan.proofs.RowLaws.{part, partPut, part-put, tail-part}
 use Rattle.table_fields.specs.Writing.{Wrote}
 use Rattle.table_fields.proofs.Joining.{wrote-from-start}
 use Rattle.table.specs.Parts.{lineFeed, before}
+use Rattle.table.specs.declared.Tool.{Tool}
 use Rattle.table.proofs.PartsFound.{before-taken}
 use Rattle.table.proofs.PartsInLines.{unparted, none-counted}
 use Rattle.table_progress.specs.declared.Progress.{Progress}
@@ -65,25 +66,25 @@ module _ (p : Progress) (b : Buffers) {room : Bool} (tested : room ≡ hasRoom b
     accepted e = let tests : ready p b ≡ true = rw (has-room, sym tested-too ∙ not-false far e) in record { is-ready = tests; room = is-ready p b tests }
 
 -- ---- refused
-module _ (p : Progress) (b : Buffers) where
+module _ (tool : Tool) (p : Progress) (b : Buffers) where
   pub step-refused : (input : List ℕ) {r : Stepped} → r ≡ refusedStep p b .answer → ready p b ≡ false
-      → record { answer = r; buffers = b } ≡ stepped p input b
-  step-refused input e not-ready = ap (λ r. record { answer = r; buffers = b }) e ∙ sym (refused-step p input b not-ready)
+      → record { answer = r; buffers = b } ≡ stepped tool p input b
+  step-refused input e not-ready = ap (λ r. record { answer = r; buffers = b }) e ∙ sym (refused-step tool p input b not-ready)
 
-  pub end-refused : {r : Stepped} → r ≡ refusedStep p b .answer → ready p b ≡ false → record { answer = r; buffers = b } ≡ finished p b
-  end-refused e not-ready = ap (λ r. record { answer = r; buffers = b }) e ∙ sym (refused-end p b not-ready)
+  pub end-refused : {r : Stepped} → r ≡ refusedStep p b .answer → ready p b ≡ false → record { answer = r; buffers = b } ≡ finished tool p b
+  end-refused e not-ready = ap (λ r. record { answer = r; buffers = b }) e ∙ sym (refused-end tool p b not-ready)
 
   -- ---- a whole line
   abbrev WholeLine : List ℕ → List ℕ → Progress → ℕ → (defaults plan table out : List ℕ) → Type 0
-  WholeLine l out = LineEnded p l (b .defaults) (b .plan) (b .table) out
+  WholeLine l out = LineEnded tool p l (b .defaults) (b .plan) (b .table) out
 
   line-done : (l : List ℕ) (used : ℕ) {p′ : Progress} {w : ℕ} {line defaults plan table out : List ℕ} → line ≡ over l (b .line)
       → WholeLine l (b .out) p′ w defaults plan table out
-      → record { answer = record { ok = true; progress = p′; used = used; wrote = w }; buffers = lent line defaults plan table out } ≡ lineStep p l used b
+      → record { answer = record { ok = true; progress = p′; used = used; wrote = w }; buffers = lent line defaults plan table out } ≡ lineStep tool p l used b
   line-done l used put so =
       rw (
         so .0,
-        so .1 .0 .next ∙ zero-add (length (linePrints (awaits p (b .defaults)) l)),
+        so .1 .0 .next ∙ zero-add (length (linePrints tool (awaits p (b .defaults)) l)),
         put,
         so .1 .1 .0,
         so .1 .1 .1 .0,
@@ -110,7 +111,7 @@ module _ (p : Progress) (b : Buffers) where
           };
           buffers = lent line (b .defaults) (b .plan) (b .table) (b .out);
         }
-        ≡ stepped p input b
+        ≡ stepped tool p input b
     unfolding stepped
     step-within-line all =
         rw (holding .0, holding .1)
@@ -124,11 +125,11 @@ module _ (p : Progress) (b : Buffers) where
     pub step-whole-line : {p′ : Progress} {w : ℕ} {defaults plan table out : List ℕ} → (end ≡ length input → ⊥)
         → WholeLine (part 0 held line) (b .out) p′ w defaults plan table out
         → record { answer = record { ok = true; progress = p′; used = end + 1; wrote = w }; buffers = lent line defaults plan table out }
-        ≡ stepped p input b
+        ≡ stepped tool p input b
     unfolding stepped
     step-whole-line {p′} {w} {defaults} {plan} {table} {out} some so =
         line-done l (end + 1) (holding .1) (subst (λ m. WholeLine m (b .out) p′ w defaults plan table out) held-line so)
-        ∙ ap₂ (λ m n. lineStep p (heldWith (p .held) (b .line) m) (n + 1) b) upto-feed feed-place
+        ∙ ap₂ (λ m n. lineStep tool p (heldWith (p .held) (b .line) m) (n + 1) b) upto-feed feed-place
         ∙ one-picked (ltb 0 (count lineFeed input)) _ _
         (lt-ltb 0 (count lineFeed input) (feed-counted lineFeed input (λ e. some (feed-place ∙ e))))
         ∙ one-picked (ready p b) _ _ is-ready
@@ -140,7 +141,7 @@ module _ (p : Progress) (b : Buffers) where
         held-line = ap₂ (λ n m. take n m) (sub-zero held ∙ holding .0) (holding .1) ∙ take-append-seam l (drop (length l) (b .line))
 
   -- ---- the bytes after the last line feed
-  pub last-none : p .held ≡ 0 → record { answer = record { ok = true; progress = p; used = 0; wrote = 0 }; buffers = b } ≡ lastLine p b
+  pub last-none : p .held ≡ 0 → record { answer = record { ok = true; progress = p; used = 0; wrote = 0 }; buffers = b } ≡ lastLine tool p b
   last-none none = rw (eq-eqb (p .held) 0 none)
 
   -- They are a whole line, with room for what it prints in the first bytes of the output.
@@ -149,7 +150,7 @@ module _ (p : Progress) (b : Buffers) where
       (so : WholeLine (part 0 (p .held) (b .line)) (part 0 room (b .out)) p′ w defaults plan table out)
       (same : length out ≡ length (part 0 room (b .out))) where
     abbrev printed : List ℕ
-    printed = linePrints (awaits p (b .defaults)) (part 0 (p .held) (b .line))
+    printed = linePrints tool (awaits p (b .defaults)) (part 0 (p .held) (b .line))
 
     pub last-fits : w ≤ room
     last-fits = omega (arith, wrote-fits (so .1 .0) same, front-length room (b .out) fits)
@@ -159,10 +160,10 @@ module _ (p : Progress) (b : Buffers) where
           answer = record { ok = true; progress = p′; used = 0; wrote = w };
           buffers = lent (b .line) defaults plan table (partPut 0 room (b .out) out);
         }
-        ≡ lastLine p b
+        ≡ lastLine tool p b
     last-some =
         line-done (part 0 (p .held) (b .line)) 0 itself (so .0, (record { bytes = whole; next = so .1 .0 .next }, so .1 .1))
-        ∙ ap (λ n. lineStep p (take n (b .line)) 0 b) (sub-zero (p .held))
+        ∙ ap (λ n. lineStep tool p (take n (b .line)) 0 b) (sub-zero (p .held))
         ∙ other-picked (eqb (p .held) 0) _ _ (ne-eqb (p .held) 0 some)
       where
         itself : b .line ≡ over (part 0 (p .held) (b .line)) (b .line)
@@ -178,7 +179,7 @@ module _ (p : Progress) (b : Buffers) where
 
   -- ---- the end of the input
   module _ (is-ready : ready p b ≡ true) {p′ : Progress} {w : ℕ} {defaults plan table out : List ℕ} (inside : w ≤ length out)
-      (last : record { answer = record { ok = true; progress = p′; used = 0; wrote = w }; buffers = lent (b .line) defaults plan table out } ≡ lastLine p b)
+      (last : record { answer = record { ok = true; progress = p′; used = 0; wrote = w }; buffers = lent (b .line) defaults plan table out } ≡ lastLine tool p b)
     where
       abbrev last-printed : List ℕ
       last-printed = endPrints (awaits p′ defaults)
@@ -188,7 +189,7 @@ module _ (p : Progress) (b : Buffers) where
             answer = record { ok = true; progress = q; used = 0; wrote = w + more };
             buffers = lent (b .line) defaults plan table (partPut w (length out) out new);
           }
-          ≡ finished p b
+          ≡ finished tool p b
       unfolding finished
       end-done {new = new} wrote ends =
           rw (ends, wrote .next ∙ zero-add (length last-printed), behind) (ap withEnd last ∙ one-picked (ready p b) _ _ is-ready)

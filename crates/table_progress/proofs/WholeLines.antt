@@ -18,8 +18,10 @@ use Rattle.table.specs.Parts.{picked}
 use Rattle.table.specs.declared.JobLine.{JobLine}
 use Rattle.table.specs.Run.{jobPlan}
 use Rattle.table.specs.Judged.{isHeader, judgedDefaults, judgedJob}
+use Rattle.table.specs.declared.Tool.{Tool}
+use Rattle.table.specs.declared.Tool.the-variants.{Tables, Reasons}
 use Rattle.table.proofs.PartsJudged.{job-small}
-use Rattle.table_progress.specs.Printed.{verdictPlan, verdictTable}
+use Rattle.table_progress.specs.Printed.{planLeft, tableLeft, verdictPlan, verdictTable}
 use Rattle.table_progress.specs.declared.Awaited.{Awaited}
 use Rattle.table_progress.specs.declared.Awaited.the-variants.{Header, Defaults, Job, Nothing}
 use Rattle.table_progress.specs.declared.Progress.{Progress}
@@ -79,37 +81,44 @@ length-defaults (aJob kept n) l buffer h = refl
 length-defaults nothing l buffer h = refl
 
 -- A formula that is taken has a plan of 2,817 words.
-length-verdict-plan : (job : JobLine) (s plan : List ℕ) (v : Verdict) → verdict s ≡ v → length plan ≡ planLength → length (verdictPlan job v plan) ≡ planLength
+length-plan-left : (tool : Tool) (points : ℕ) (p : List ℕ) → length (planLeft tool points p) ≡ length p
+length-plan-left Tables points p = length-after 64 points p
+length-plan-left Reasons points p = refl
+
+length-verdict-plan : (tool : Tool) (job : JobLine) (s plan : List ℕ) (v : Verdict) → verdict s ≡ v → length plan ≡ planLength → length (verdictPlan tool job v plan) ≡ planLength
 unfolding verdictPlan
-length-verdict-plan job s plan (refused number place) e h = h
-length-verdict-plan job s plan (accepted t) e h =
-    length-after 64 (job .count) (jobPlan job t)
+length-verdict-plan tool job s plan (refused number place) e h = h
+length-verdict-plan tool job s plan (accepted t) e h =
+    length-plan-left tool (job .count) (jobPlan job t)
     ∙ compiled-length 64 (job .start) (job .step) (omega arith) (verdict-accepted s e)
 
-pub length-plan-after : (awaits : Awaits) (l plan : List ℕ) → planLength ≤ length plan → length (planAfterLine awaits l plan) ≡ length plan
-length-plan-after theHeader l plan h = refl
-length-plan-after theDefaults l plan h = refl
-length-plan-after (aJob kept n) l plan h =
+pub length-plan-after : (tool : Tool) (awaits : Awaits) (l plan : List ℕ) → planLength ≤ length plan → length (planAfterLine tool awaits l plan) ≡ length plan
+length-plan-after tool theHeader l plan h = refl
+length-plan-after tool theDefaults l plan h = refl
+length-plan-after tool (aJob kept n) l plan h =
     picks (λ q. length q ≡ length plan) (judgedJob l kept .ok)
-    (λ _. length-front plan (verdictPlan (judgedJob l kept) (verdict (picked 1 l kept)) (take planLength plan)) planLength
-    (length-verdict-plan (judgedJob l kept) (picked 1 l kept) (take planLength plan) (verdict (picked 1 l kept)) refl short ∙ sym short))
+    (λ _. length-front plan (verdictPlan tool (judgedJob l kept) (verdict (picked 1 l kept)) (take planLength plan)) planLength
+    (length-verdict-plan tool (judgedJob l kept) (picked 1 l kept) (take planLength plan) (verdict (picked 1 l kept)) refl short ∙ sym short))
     (λ _. refl)
   where
     short : length (take planLength plan) ≡ planLength
     short = length-take-le planLength plan h
-length-plan-after nothing l plan h = refl
+length-plan-after tool nothing l plan h = refl
 
-length-verdict-table : (job : JobLine) (table : List ℕ) (v : Verdict) → job .count ≤ length table → length (verdictTable job v table) ≡ length table
+length-table-left : (tool : Tool) (points : ℕ) (p table : List ℕ) → points ≤ length table → length (tableLeft tool points p table) ≡ length table
+length-table-left Tables points p table h =
+    length-front table (pointValues 64 points p) points (length-points 64 points p ∙ sym (length-take-le points table h))
+length-table-left Reasons points p table h = refl
+
+length-verdict-table : (tool : Tool) (job : JobLine) (table : List ℕ) (v : Verdict) → job .count ≤ length table → length (verdictTable tool job v table) ≡ length table
 unfolding verdictTable
-length-verdict-table job table (refused number place) h = refl
-length-verdict-table job table (accepted t) h =
-    length-front table (pointValues 64 (job .count) (jobPlan job t)) (job .count)
-    (length-points 64 (job .count) (jobPlan job t) ∙ sym (length-take-le (job .count) table h))
+length-verdict-table tool job table (refused number place) h = refl
+length-verdict-table tool job table (accepted t) h = length-table-left tool (job .count) (jobPlan job t) table h
 
-pub length-table-after : (awaits : Awaits) (l table : List ℕ) → 4096 ≤ length table → length (tableAfterLine awaits l table) ≡ length table
-length-table-after theHeader l table h = refl
-length-table-after theDefaults l table h = refl
-length-table-after (aJob kept n) l table h =
+pub length-table-after : (tool : Tool) (awaits : Awaits) (l table : List ℕ) → 4096 ≤ length table → length (tableAfterLine tool awaits l table) ≡ length table
+length-table-after tool theHeader l table h = refl
+length-table-after tool theDefaults l table h = refl
+length-table-after tool (aJob kept n) l table h =
     picks (λ q. length q ≡ length table) (judgedJob l kept .ok)
-    (λ _. length-verdict-table (judgedJob l kept) table (verdict (picked 1 l kept)) (omega (arith, job-small l kept .count))) (λ _. refl)
-length-table-after nothing l table h = refl
+    (λ _. length-verdict-table tool (judgedJob l kept) table (verdict (picked 1 l kept)) (omega (arith, job-small l kept .count))) (λ _. refl)
+length-table-after tool nothing l table h = refl

@@ -6,6 +6,7 @@ use Prim.Native.Nat.{ℕ, suc}
 use Rattle.table.specs.Parts.{lines}
 use Rattle.table.specs.Judged.{isHeader, judgedDefaults}
 use Rattle.table.specs.Lines.{noLine}
+use Rattle.table.specs.declared.Tool.{Tool}
 use Rattle.table_progress.specs.Printed.{jobPrints}
 
 -- What the next line is: the header, the defaults line, or job n with the defaults; or the run has ended.
@@ -15,12 +16,12 @@ pub data Awaits : Type 0 where
   aJob : List ℕ → ℕ → Awaits
   nothing : Awaits
 
--- What a line prints. "A refused header or defaults line prints `no`, 0, refusal, place and ends the run."
-unfoldable pub linePrints : Awaits → List ℕ → List ℕ
-linePrints theHeader l = cond (isHeader l) [] (noLine 0 12 0)
-linePrints theDefaults l = cond (judgedDefaults l .ok) [] (noLine 0 11 (judgedDefaults l .place))
-linePrints (aJob kept n) l = jobPrints n l kept
-linePrints nothing l = []
+-- What a line prints, by the tool. "A refused header or defaults line prints `no`, 0, refusal, place and ends the run."
+unfoldable pub linePrints : Tool → Awaits → List ℕ → List ℕ
+linePrints tool theHeader l = cond (isHeader l) [] (noLine 0 12 0)
+linePrints tool theDefaults l = cond (judgedDefaults l .ok) [] (noLine 0 11 (judgedDefaults l .place))
+linePrints tool (aJob kept n) l = jobPrints tool n l kept
+linePrints tool nothing l = []
 
 -- What is awaited after it.
 unfoldable pub afterLine : Awaits → List ℕ → Awaits
@@ -37,9 +38,9 @@ endPrints theDefaults = noLine 0 11 0
 endPrints (aJob kept n) = []
 endPrints nothing = []
 
-unfoldable pub linesPrint : Awaits → List (List ℕ) → List ℕ
-linesPrint awaits [] = endPrints awaits
-linesPrint awaits (l ∷ more) = linePrints awaits l ++ linesPrint (afterLine awaits l) more
+unfoldable pub linesPrint : Tool → Awaits → List (List ℕ) → List ℕ
+linesPrint tool awaits [] = endPrints awaits
+linesPrint tool awaits (l ∷ more) = linePrints tool awaits l ++ linesPrint tool (afterLine awaits l) more
 
-abbrev pub run : List ℕ → List ℕ
-run input = linesPrint theHeader (lines input)
+abbrev pub run : Tool → List ℕ → List ℕ
+run tool input = linesPrint tool theHeader (lines input)

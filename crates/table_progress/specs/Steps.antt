@@ -10,6 +10,7 @@ use Rattle.formula.specs.Refusals.{count}
 use Rattle.formula_scan.specs.Verdict.{verdict}
 use Rattle.table.specs.Parts.{lineFeed, before, picked}
 use Rattle.table.specs.Judged.{isHeader, judgedDefaults, judgedJob}
+use Rattle.table.specs.declared.Tool.{Tool}
 use Rattle.table_progress.specs.Printed.{verdictPlan, verdictTable}
 use Rattle.table_progress.specs.declared.Awaited.{Awaited}
 use Rattle.table_progress.specs.declared.Awaited.the-variants.{Header, Defaults, Job, Nothing}
@@ -52,18 +53,18 @@ defaultsAfter (aJob kept n) l buffer = buffer
 defaultsAfter nothing l buffer = buffer
 
 -- A job works in the plan's own words and in the table.
-abbrev pub planAfterLine : Awaits → List ℕ → List ℕ → List ℕ
-planAfterLine theHeader l plan = plan
-planAfterLine theDefaults l plan = plan
-planAfterLine (aJob kept n) l plan =
-    cond (judgedJob l kept .ok) (verdictPlan (judgedJob l kept) (verdict (picked 1 l kept)) (take planLength plan) ++ drop planLength plan) plan
-planAfterLine nothing l plan = plan
+abbrev pub planAfterLine : Tool → Awaits → List ℕ → List ℕ → List ℕ
+planAfterLine tool theHeader l plan = plan
+planAfterLine tool theDefaults l plan = plan
+planAfterLine tool (aJob kept n) l plan =
+    cond (judgedJob l kept .ok) (verdictPlan tool (judgedJob l kept) (verdict (picked 1 l kept)) (take planLength plan) ++ drop planLength plan) plan
+planAfterLine tool nothing l plan = plan
 
-abbrev pub tableAfterLine : Awaits → List ℕ → List ℕ → List ℕ
-tableAfterLine theHeader l table = table
-tableAfterLine theDefaults l table = table
-tableAfterLine (aJob kept n) l table = cond (judgedJob l kept .ok) (verdictTable (judgedJob l kept) (verdict (picked 1 l kept)) table) table
-tableAfterLine nothing l table = table
+abbrev pub tableAfterLine : Tool → Awaits → List ℕ → List ℕ → List ℕ
+tableAfterLine tool theHeader l table = table
+tableAfterLine tool theDefaults l table = table
+tableAfterLine tool (aJob kept n) l table = cond (judgedJob l kept .ok) (verdictTable tool (judgedJob l kept) (verdict (picked 1 l kept)) table) table
+tableAfterLine tool nothing l table = table
 
 -- ---- the lent buffers
 pub record Buffers : Type 0 where
@@ -73,7 +74,7 @@ pub record Buffers : Type 0 where
   pub table : List ℕ
   pub out : List ℕ
 
--- Room for what a line and the end of the input print: at most 42 bytes a point, and two lines of at most 67.
+-- Room for what a line and the end of the input print: at most 42 bytes a point, and two lines of at most 67. Rows, of at most 1,164 bytes each, print less.
 abbrev pub mostPrinted : ℕ
 mostPrinted = 134 + 42 * 4096
 
@@ -106,15 +107,15 @@ abbrev pub refusedStep : Progress → Buffers → Outcome
 refusedStep p b = record { answer = record { ok = false; progress = p; used = 0; wrote = 0 }; buffers = b }
 
 -- The line l is whole.
-abbrev pub lineStep : Progress → List ℕ → ℕ → Buffers → Outcome
-lineStep p l used b = record {
-  answer = record { ok = true; progress = progressAfter p l; used = used; wrote = length (linePrints (awaits p (b .defaults)) l) };
+abbrev pub lineStep : Tool → Progress → List ℕ → ℕ → Buffers → Outcome
+lineStep tool p l used b = record {
+  answer = record { ok = true; progress = progressAfter p l; used = used; wrote = length (linePrints tool (awaits p (b .defaults)) l) };
   buffers = record {
     line = over l (b .line);
     defaults = defaultsAfter (awaits p (b .defaults)) l (b .defaults);
-    plan = planAfterLine (awaits p (b .defaults)) l (b .plan);
-    table = tableAfterLine (awaits p (b .defaults)) l (b .table);
-    out = over (linePrints (awaits p (b .defaults)) l) (b .out);
+    plan = planAfterLine tool (awaits p (b .defaults)) l (b .plan);
+    table = tableAfterLine tool (awaits p (b .defaults)) l (b .table);
+    out = over (linePrints tool (awaits p (b .defaults)) l) (b .out);
   };
 }
 
@@ -131,11 +132,11 @@ partStep p l used b = record {
 }
 
 -- A step takes the input up to its first line feed, or all of it where it has none.
-unfoldable pub stepped : Progress → List ℕ → Buffers → Outcome
-stepped p input b =
+unfoldable pub stepped : Tool → Progress → List ℕ → Buffers → Outcome
+stepped tool p input b =
     cond (ready p b)
     (cond (ltb 0 (count lineFeed input))
-    (lineStep p (heldWith (p .held) (b .line) (before lineFeed input)) (length (before lineFeed input) + 1) b)
+    (lineStep tool p (heldWith (p .held) (b .line) (before lineFeed input)) (length (before lineFeed input) + 1) b)
     (partStep p (heldWith (p .held) (b .line) input) (length input) b))
     (refusedStep p b)
 
@@ -144,8 +145,8 @@ abbrev pub stays : Progress → Buffers → Outcome
 stays p b = record { answer = record { ok = true; progress = p; used = 0; wrote = 0 }; buffers = b }
 
 -- The bytes after the last line feed, if there are any, are a whole line.
-abbrev pub lastLine : Progress → Buffers → Outcome
-lastLine p b = cond (eqb (p .held) 0) (stays p b) (lineStep p (take (p .held) (b .line)) 0 b)
+abbrev pub lastLine : Tool → Progress → Buffers → Outcome
+lastLine tool p b = cond (eqb (p .held) 0) (stays p b) (lineStep tool p (take (p .held) (b .line)) 0 b)
 
 -- What the end of the input prints, behind what was written before.
 abbrev pub endingWith : List ℕ → Outcome → Outcome
@@ -164,8 +165,8 @@ abbrev pub withEnd : Outcome → Outcome
 withEnd o = endingWith (endPrints (awaits (o .answer .progress) (o .buffers .defaults))) o
 
 -- "bytes after the last line feed, if there are any, are a line as well": the end of the input.
-unfoldable pub finished : Progress → Buffers → Outcome
-finished p b =
+unfoldable pub finished : Tool → Progress → Buffers → Outcome
+finished tool p b =
     cond (ready p b)
-    (withEnd (cond (eqb (p .held) 0) (stays p b) (lineStep p (take (p .held) (b .line)) 0 b)))
+    (withEnd (cond (eqb (p .held) 0) (stays p b) (lineStep tool p (take (p .held) (b .line)) 0 b)))
     (refusedStep p b)

@@ -1,6 +1,7 @@
-// A run of the table printer as steps over lent buffers: each takes the input up to a line feed and writes what the line prints.
+// A run of a tool over a job file, as steps over lent buffers: each takes the input up to a line feed and writes what the line prints.
 // What a whole line does is in `table_lines`; reading and writing files is the program's.
 use plan::PLAN_WORDS;
+use table::Tool;
 use table_fields::fields;
 use table_progress::Awaited;
 use table_progress::LineDone;
@@ -101,6 +102,7 @@ fn hold(line: &mut [u8], held: usize, more: &[u8]) -> usize
 // One step: the input up to its first line feed, or all of it where it has none. Lend the buffers again as they were left; `plan`, `table` and `out`
 // may be altered between steps.
 pub fn step(
+    tool: Tool,
     progress: Progress,
     input: &[u8],
     line: &mut [u8],
@@ -110,7 +112,7 @@ pub fn step(
     out: &mut [u8],
 ) -> Stepped
     ensures { λ r. ⌜ record { answer = r; buffers = lent (now (line .exit)) (now (defaults .exit)) (now (plan .exit)) (now (table .exit)) (now (out .exit)) }
-        ≡ stepped progress (now (input .entry)) (lent (now (line .entry)) (now (defaults .entry)) (now (plan .entry)) (now (table .entry)) (now (out .entry))) ⌝ }
+        ≡ stepped tool progress (now (input .entry)) (lent (now (line .entry)) (now (defaults .entry)) (now (plan .entry)) (now (table .entry)) (now (out .entry))) ⌝ }
 {
     if !have_room(
         line.len(),
@@ -141,7 +143,7 @@ pub fn step(
         };
     }
     let used = end + 1;
-    let done = table_lines::end_line(progress, &line[0..held], defaults, plan, table, out);
+    let done = table_lines::end_line(tool, progress, &line[0..held], defaults, plan, table, out);
     let reached = done.progress;
     Stepped {
         ok: true,
@@ -153,6 +155,7 @@ pub fn step(
 
 // The bytes after the last line feed, if there are any, are a whole line.
 fn last_line(
+    tool: Tool,
     progress: Progress,
     line: &[u8],
     defaults: &mut [u8],
@@ -171,7 +174,7 @@ fn last_line(
       answer = record { ok = true; progress = r .progress; used = 0; wrote = r .wrote };
       buffers = lent (now (line .entry)) (now (defaults .exit)) (now (plan .exit)) (now (table .exit)) (now (out .exit));
     }
-        ≡ lastLine progress (lent (now (line .entry)) (now (defaults .entry)) (now (plan .entry)) (now (table .entry)) (now (out .entry))) ⌝ }
+        ≡ lastLine tool progress (lent (now (line .entry)) (now (defaults .entry)) (now (plan .entry)) (now (table .entry)) (now (out .entry))) ⌝ }
     ensures { λ r. ⌜ r .wrote + 67 ≤ length (now (out .entry)) ⌝ }
 {
     let held = progress.held;
@@ -180,6 +183,7 @@ fn last_line(
     }
     let room = out.len() - MOST_AT_THE_END;
     table_lines::end_line(
+        tool,
         progress,
         &line[0..held],
         defaults,
@@ -191,6 +195,7 @@ fn last_line(
 
 // The end of the input: the bytes after the last line feed, if there are any, are a line as well.
 pub fn finish(
+    tool: Tool,
     progress: Progress,
     line: &[u8],
     defaults: &mut [u8],
@@ -199,7 +204,7 @@ pub fn finish(
     out: &mut [u8],
 ) -> Stepped
     ensures { λ r. ⌜ record { answer = r; buffers = lent (now (line .entry)) (now (defaults .exit)) (now (plan .exit)) (now (table .exit)) (now (out .exit)) }
-        ≡ finished progress (lent (now (line .entry)) (now (defaults .entry)) (now (plan .entry)) (now (table .entry)) (now (out .entry))) ⌝ }
+        ≡ finished tool progress (lent (now (line .entry)) (now (defaults .entry)) (now (plan .entry)) (now (table .entry)) (now (out .entry))) ⌝ }
 {
     if !have_room(
         line.len(),
@@ -213,7 +218,7 @@ pub fn finish(
     if !is_within_bounds(progress) {
         return refused(progress);
     }
-    let done = last_line(progress, line, defaults, plan, table, out);
+    let done = last_line(tool, progress, line, defaults, plan, table, out);
     let wrote = done.wrote;
     let reached = done.progress;
     let awaited = reached.awaited;

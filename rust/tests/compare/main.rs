@@ -14,6 +14,8 @@ mod plans;
 #[cfg(otterchime_linked)]
 mod readings;
 #[cfg(otterchime_linked)]
+mod reasons;
+#[cfg(otterchime_linked)]
 mod rows;
 #[cfg(otterchime_linked)]
 mod spans;

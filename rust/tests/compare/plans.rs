@@ -1,7 +1,7 @@
 //! Compiling, filling, cost and soundness: compiled plans against direct values, and damaged plans against their words.
 use crate::{on_many, rows, word};
-use otterchime::{compile, cost, fill, sound, Filled, Plan, Refusal, PLAN_WORDS, ROW_WORDS};
-use printer::folding::{part, Row};
+use otterchime::{compile, cost, fill, reason, sound, Filled, Plan, Refusal, PLAN_WORDS, ROW_WORDS};
+use printer::folding::{self, part, Row};
 use printer::formula::{read, value, Tree};
 use printer::random::Random;
 
@@ -9,7 +9,7 @@ const BEHIND: usize = 3;
 const MOST_POINTS: usize = 40;
 
 /// The words of a plan of these rows.
-fn words_of(rows: &[Row]) -> Vec<u64> {
+pub fn words_of(rows: &[Row]) -> Vec<u64> {
     let mut words = vec![rows.len() as u64];
     for row in rows {
         let elements = row.elements.iter().copied().chain(std::iter::repeat(0)).take(17);
@@ -67,13 +67,14 @@ fn fill_some(plan: &mut [u64], point_cost: u64, random: &mut Random, expected: i
 }
 
 fn check_accepted(text: &[u8], tree: &Tree, grid: &Grid, plan: &mut [u64], random: &mut Random) {
-    let whole = part(tree, grid.start, grid.step);
-    let expected = &whole.folded;
-    assert_eq!((plan[0], cost(plan), sound(plan)), (expected.rows(), Ok(expected.cost()), Ok(())));
-    assert_eq!(plan[..PLAN_WORDS], words_of(&whole.plan()));
+    let expected = part(tree, grid.start, grid.step);
+    let expected_rows = expected.plan();
+    let expected_cost = folding::cost(&expected_rows);
+    assert_eq!((plan[0], cost(plan), sound(plan)), (expected_rows.len() as u64, Ok(expected_cost), Ok(())));
+    assert_eq!(plan[..PLAN_WORDS], words_of(&expected_rows));
     assert!(rows::is_sound(plan));
-    let points = fill_some(plan, expected.cost() + 1, random, |i| value(tree, grid.x(i)));
-    if expected.sums().is_some() {
+    let points = fill_some(plan, expected_cost + 1, random, |i| value(tree, grid.x(i)));
+    if expected.folded.sums().is_some() {
         let later = Plan::compile(text, grid.x(points), grid.step).expect("accepted on every grid");
         assert_eq!(&plan[..PLAN_WORDS], later.words());
     }
@@ -109,11 +110,17 @@ fn formulas() {
     crate::tell(&format!("formulas: accepted, and refused 1 to 8: {answers:?}"));
 }
 
-/// A plan with some words changed, mostly in its rows.
+/// A compiled plan with some words changed.
 pub fn damaged(random: &mut Random) -> Vec<u64> {
     let text = random.formula();
     let Grid { start, step } = Grid::random(random);
     let mut plan = Plan::compile(&text, start, step).map_or(vec![0; PLAN_WORDS], |plan| plan.words().to_vec());
+    damage(&mut plan, random);
+    plan
+}
+
+/// Changes some words of a plan, or none, mostly in its rows.
+pub fn damage(plan: &mut [u64], random: &mut Random) {
     for _ in 0..random.between(0, 2) {
         let rows = ROW_WORDS * plan[0].min(127) as usize;
         let at = if random.percent(90) { random.below(rows + ROW_WORDS + 1) } else { random.below(PLAN_WORDS) };
@@ -123,7 +130,6 @@ pub fn damaged(random: &mut Random) -> Vec<u64> {
             _ => word(random),
         };
     }
-    plan
 }
 
 #[test]
@@ -155,6 +161,7 @@ fn short_plans() {
         let mut table = [7; 5];
         assert_eq!(sound(&plan), Err(Refusal::PlanTooShort));
         assert_eq!(cost(&plan), Err(Refusal::PlanTooShort));
+        assert_eq!(reason(&plan, 0), Err(Refusal::PlanTooShort));
         assert_eq!(fill(&mut plan, &mut table, 100), Err(Refusal::PlanTooShort));
         assert_eq!(compile(b"x", 0, 1, &mut plan), Err(Refusal::PlanTooShort));
         assert_eq!((plan, table), (vec![1; length], [7; 5]));

@@ -1,6 +1,6 @@
 //! Soundness, cost and values of any plan, told from its words alone. Nothing is shifted: a chain's value at an index is a sum of binomials.
 use otterchime::PLAN_WORDS;
-use printer::folding::{binomials, value_at};
+use printer::folding::{self, binomials, value_at};
 use printer::formula::power;
 
 const MOST_ROWS: u64 = 128;
@@ -46,6 +46,20 @@ pub fn is_sound(plan: &[u64]) -> bool {
     (1..=MOST_ROWS).contains(&rows)
         && (0..rows).all(|r| is_sound_row(plan, r))
         && plan[1 + ROW_WORDS * rows as usize..PLAN_WORDS].iter().all(|word| *word == 0)
+}
+
+/// The rows of a sound plan as the independent implementation has them.
+pub fn rows(plan: &[u64]) -> Vec<folding::Row> {
+    let of_row = |r| {
+        let Row { kind, a, b, elements, first, end } = row(plan, r);
+        let used = match kind {
+            0 => 1,
+            1 | 2 => a as usize + 1,
+            _ => 0,
+        };
+        folding::Row { kind, a, b, elements: elements[..used].to_vec(), span: first as usize..end as usize }
+    };
+    (0..plan[0]).map(of_row).collect()
 }
 
 pub fn cost(plan: &[u64]) -> u64 {

@@ -1,5 +1,6 @@
-//! The case files: one larger job file with every refusal and limit of a job line, and small ones for what ends a run.
-use crate::tables::tables;
+//! The case files: a larger job file with every refusal and limit of a job line, one with every reason why a row stays, and small ones for
+//! what ends a run.
+use crate::tools::TOOLS;
 use std::path::Path;
 
 /// Four fields; an empty one takes the default.
@@ -103,6 +104,42 @@ fn points() -> Vec<Vec<u8>> {
     lines
 }
 
+/// Each operator over operands of every sort, of both hands: a constant, sum chains, product chains, a row of each kind.
+fn operators() -> Vec<String> {
+    let sorts = ["7", "x", "x^9", "3^(x)", "5^(x^2)", "x^17"];
+    let rows = ["(x+3^(x))", "(3^(x)-x)", "x^9*x^9", "-x^17", "(x^2+1)^9", "3^(3^(x))"];
+    let mut texts = vec![];
+    for operator in ["+", "-", "*"] {
+        texts.extend(sorts.iter().flat_map(|a| sorts.map(|b| format!("{a}{operator}{b}"))));
+        texts.extend(rows.map(|row| format!("{row}{operator}3^(x)")));
+        texts.extend(rows.map(|row| format!("x{operator}({row})")));
+    }
+    for operand in sorts.iter().chain(&rows) {
+        texts.extend([format!("-({operand})"), format!("({operand})^2"), format!("({operand})^17"), format!("3^({operand})")]);
+    }
+    texts
+}
+
+/// Rows to explain: every operator, a 0 or 1 that a rule drops, rows under rows, and other grids; and job lines that are refused.
+fn reasons() -> Vec<u8> {
+    let dropped = ["0+x^17", "x^17-0", "0-x^17", "1*(x^17)", "x^17*1", "0*x^17", "(x^17)^1", "(x^17)^0", "(x-x)+x*3^(x)", "x^0*(x^17+1)"];
+    let lengths = ["x^8*x^8", "x^8*x^9", "x^16*x", "x^6*x^6*x^6", "(x^4)^4", "(x^4)^5", "(x+1)^16", "(x+1)^17", "x^64", "(x^3)^6"];
+    let under = [joined(43, "x^17", "+"), "-".repeat(126) + "x^17", "3^(".repeat(32) + "x" + &")".repeat(32), around(32, "x^17")];
+    let grids = [("5", "0"), ("1", "9223372036854775808"), ("0", "4294967296"), ("18446744073709551615", "18446744073709551615")];
+    let mut lines = vec![line("chain-jobs\t1"), line("x^8*x^9+3^(x)\t0\t1\t2"), job("", "", "", ""), job("", "", "0", "")];
+    lines.extend(operators().iter().map(formula));
+    lines.extend(dropped.iter().chain(&lengths).map(formula));
+    lines.extend(under.iter().map(formula));
+    for text in ["x^8*x^9", "x^17", "x+3^(x)", "3^(x)-5^(x)", "3^(3^(x))", "x*3^(x)*x"] {
+        lines.extend(grids.map(|(start, step)| job(text, start, step, "")));
+    }
+    let bad = [job("x^17", "01", "", ""), job("x^17", "", "-1", ""), job("x^17", "", "", "4097"), line(""), line("x\t0\t1")];
+    lines.extend(["2^(x)", "x^2^3", "x^65", "18446744073709551616", "x^17+", "(x))"].map(formula));
+    lines.extend(bad);
+    lines.extend([job("x^17", "", "", "0"), long(1025, "\t\t\t"), job(joined(65, "x", "+"), "", "", "")]);
+    file(&lines)
+}
+
 fn file(lines: &[Vec<u8>]) -> Vec<u8> {
     [lines.join(&b'\n'), vec![b'\n']].concat()
 }
@@ -160,13 +197,15 @@ fn defaults() -> Vec<(&'static str, Vec<u8>)> {
     ]
 }
 
-/// Writes NAME.jobs and NAME.tables for every case.
+/// Writes NAME.jobs for every case, and beside it what each tool must write.
 pub fn write(folder: &Path) -> Result<String, String> {
-    let cases = [vec![("all", all())], headers(), defaults()].concat();
+    let cases = [vec![("all", all()), ("reasons", reasons())], headers(), defaults()].concat();
     std::fs::create_dir_all(folder).map_err(|error| error.to_string())?;
     for (name, input) in &cases {
-        for (ending, bytes) in [("jobs", input), ("tables", &tables(input).bytes)] {
-            std::fs::write(folder.join(format!("{name}.{ending}")), bytes).map_err(|error| error.to_string())?;
+        let put = |ending: &str, bytes: &[u8]| std::fs::write(folder.join(format!("{name}.{ending}")), bytes).map_err(|error| error.to_string());
+        put("jobs", input)?;
+        for tool in &TOOLS {
+            put(tool.ending, &(tool.expected)(input).bytes)?;
         }
     }
     Ok(format!("{} cases written", cases.len()))

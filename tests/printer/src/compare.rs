@@ -1,10 +1,12 @@
 //! Runs the launcher over random job files and holds what it writes to what is expected.
+use crate::jobs::Printed;
 use crate::random::Random;
-use crate::tables::{tables, Tables};
+use crate::tools::Tool;
 use std::io::{Read, Write};
 use std::process::{Command, Stdio};
 
 pub struct Comparison {
+    pub tool: &'static Tool,
     pub launcher: String,
     pub seed: u64,
     pub jobs: usize,
@@ -16,21 +18,31 @@ struct Count {
     jobs: usize,
     lines: usize,
     answers: [usize; 13],
+    reasons: [usize; 8],
+}
+
+/// Adds count by count.
+fn add_to<const N: usize>(all: &mut [usize; N], some: [usize; N]) {
+    all.iter_mut().zip(some).for_each(|(all, some)| *all += some);
+}
+
+/// How often each number from 1 on occurs that does.
+fn told(counts: &[usize], what: &str) -> String {
+    let occurring = counts.iter().enumerate().skip(1).filter(|(_, count)| **count > 0);
+    occurring.map(|(number, count)| format!(", {count} {what} {number}")).collect()
 }
 
 impl Count {
-    fn add(&mut self, file: &Tables) {
+    fn add(&mut self, file: &Printed) {
         self.files += 1;
         self.jobs += file.jobs;
         self.lines += file.bytes.iter().filter(|byte| **byte == b'\n').count();
-        for (all, one) in self.answers.iter_mut().zip(file.answers) {
-            *all += one;
-        }
+        add_to(&mut self.answers, file.answers);
+        add_to(&mut self.reasons, file.reasons);
     }
 
     fn answers(&self) -> String {
-        let refused = (1..13).filter(|number| self.answers[*number] > 0).map(|number| format!(", {} refused {number}", self.answers[number]));
-        format!("{} accepted{}", self.answers[0], refused.collect::<String>())
+        format!("{} accepted{}", self.answers[0], told(&self.answers, "refused"))
     }
 }
 
@@ -74,14 +86,14 @@ fn difference(expected: &[u8], got: &[u8]) -> String {
 
 /// Compares until enough jobs have been judged. The answer is the summary, or the first difference.
 pub fn compare(comparison: &Comparison) -> Result<String, String> {
-    let Comparison { launcher, seed, jobs } = comparison;
+    let Comparison { tool, launcher, seed, jobs } = comparison;
     println!("printer: seed {seed}, machine {}, launcher {launcher}", std::env::consts::ARCH);
     let mut random = Random(*seed);
     let mut cuts = Random(!seed);
     let mut count = Count::default();
     while count.jobs < *jobs {
         let input = random.file();
-        let expected = tables(&input);
+        let expected = (tool.expected)(&input);
         count.add(&expected);
         let result = written(launcher, &input, &mut cuts);
         let fault = match result {
@@ -94,6 +106,7 @@ pub fn compare(comparison: &Comparison) -> Result<String, String> {
         return Err(format!("DIFFERENT: seed {seed}, file {}: {fault}; the job file is kept in {place}", count.files));
     }
     let answers = count.answers();
-    let Count { files, jobs, lines, .. } = count;
-    Ok(format!("all the same on {}: seed {seed}, {files} files, {jobs} jobs ({answers}), {lines} lines compared", std::env::consts::ARCH))
+    let Count { files, jobs, lines, reasons, .. } = count;
+    let (machine, rows) = (std::env::consts::ARCH, told(&reasons, "rows for reason"));
+    Ok(format!("all the same on {machine}: seed {seed}, {files} files, {jobs} jobs ({answers}), {lines} lines compared{rows}"))
 }

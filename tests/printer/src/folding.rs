@@ -36,24 +36,27 @@ pub struct Row {
 
 use Folded::*;
 
-const LONGEST: usize = 16;
+pub const LONGEST: usize = 16;
+
+impl Row {
+    /// The last column of document 01's table.
+    pub fn cost(&self) -> u64 {
+        match self.kind {
+            0 => 0,
+            1 | 2 => self.a,
+            7 => self.b - 1,
+            8 => 128,
+            _ => 1,
+        }
+    }
+}
+
+/// "The plan's cost is the sum over its rows."
+pub fn cost(rows: &[Row]) -> u64 {
+    rows.iter().map(Row::cost).sum()
+}
 
 impl Folded {
-    pub fn rows(&self) -> u64 {
-        1 + self.operands().iter().map(|operand| operand.folded.rows()).sum::<u64>()
-    }
-
-    pub fn cost(&self) -> u64 {
-        let own = match self {
-            Constant(_) => 0,
-            Sums(chain) | Products(chain) => chain.len() as u64 - 1,
-            Operator { kind: 7, times, .. } => times - 1,
-            Operator { kind: 8, .. } => 128,
-            Operator { .. } => 1,
-        };
-        own + self.operands().iter().map(|operand| operand.folded.cost()).sum::<u64>()
-    }
-
     /// A constant or a sum chain as the elements of a sum chain.
     pub fn sums(&self) -> Option<Vec<u64>> {
         match self {
@@ -105,7 +108,7 @@ fn without_last(mut chain: Vec<u64>, neutral: u64) -> Vec<u64> {
     chain
 }
 
-fn trimmed_sums(chain: Vec<u64>) -> Folded {
+pub fn trimmed_sums(chain: Vec<u64>) -> Folded {
     let chain = without_last(chain, 0);
     if chain.len() == 1 {
         Constant(chain[0])
@@ -114,7 +117,7 @@ fn trimmed_sums(chain: Vec<u64>) -> Folded {
     }
 }
 
-fn trimmed_products(chain: Vec<u64>) -> Folded {
+pub fn trimmed_products(chain: Vec<u64>) -> Folded {
     let chain = without_last(chain, 1);
     if chain[0] == 0 || chain.len() == 1 {
         Constant(chain[0])
@@ -222,18 +225,33 @@ fn raised(base: Part, exponent: Part) -> Folded {
     }
 }
 
+/// What the rules make of an operator, by the kind of its row, over these operands; n is a literal power's exponent.
+pub fn operated(kind: u64, n: u64, operands: Vec<Part>) -> Folded {
+    let mut operands = operands.into_iter();
+    let mut next = || operands.next().expect("an operand");
+    match kind {
+        3 => plus(next(), next()),
+        4 => minus(next(), next()),
+        5 => times(next(), next()),
+        6 => negative(next()),
+        7 => literal_power(next(), n),
+        8 => raised(next(), next()),
+        other => unreachable!("no operator has kind {other}"),
+    }
+}
+
 /// The folded tree, from the bottom up.
 pub fn folded(tree: &Tree, start: u64, step: u64) -> Folded {
     let of = |operand: &Tree| part(operand, start, step);
     match &tree.node {
         Node::Number(word) => Constant(*word),
         Node::X => trimmed_sums(vec![start, step]),
-        Node::Plus(a, b) => plus(of(a), of(b)),
-        Node::Minus(a, b) => minus(of(a), of(b)),
-        Node::Times(a, b) => times(of(a), of(b)),
-        Node::Negative(a) => negative(of(a)),
-        Node::Power(a, n) => literal_power(of(a), *n),
-        Node::Raise { base, exponent, .. } => raised(of(base), of(exponent)),
+        Node::Plus(a, b) => operated(3, 0, vec![of(a), of(b)]),
+        Node::Minus(a, b) => operated(4, 0, vec![of(a), of(b)]),
+        Node::Times(a, b) => operated(5, 0, vec![of(a), of(b)]),
+        Node::Negative(a) => operated(6, 0, vec![of(a)]),
+        Node::Power(a, n) => operated(7, *n, vec![of(a)]),
+        Node::Raise { base, exponent, .. } => operated(8, 0, vec![of(base), of(exponent)]),
     }
 }
 

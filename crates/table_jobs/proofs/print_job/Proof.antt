@@ -2,7 +2,7 @@
 use native.Mathlib.Omega.{arith}
 use borrow.Author.Needs.{needs}
 use borrow.Author.Tests.{not-true, not-false}
-use Rattle.table_progress.proofs.Jobs.{line-refused, formula-refused, formula-sound, formula-printed}
+use Rattle.table_progress.proofs.Jobs.{line-refused, formula-refused, formula-sound, formula-texts, formula-printed}
 use Rattle.table_jobs.proofs.print_job.Statement.{statement}
 use Rattle.table_jobs.proofs.print_job.Tie as tie
 
@@ -15,7 +15,7 @@ same-length c = omega arith
 returns : tie.Need-returns
 returns c =
     let start = c .before .before .before .before .before .before .before .before .before .before .args in
-    line-refused (start .n) (start .job) (start .formula .now) (start .plan .now) (start .table .now) (start .out .now)
+    line-refused (start .tool) (start .n) (start .job) (start .formula .now) (start .plan .now) (start .table .now) (start .out .now)
     (not-true _ (c .before .before .before .before .if1 .taken)) (c .before .before .write-no-line .ensures)
 
 compile-requires : tie.Need-compile-requires
@@ -36,7 +36,7 @@ returns-2 c =
     let judging = compiling .before .before in
     let begun = judging .before .before .before .before .before .before in
     let start = begun .args in
-    formula-refused (start .n) (start .job) (start .formula .now) (start .plan .now) (start .table .now) (start .out .now)
+    formula-refused (start .tool) (start .n) (start .job) (start .formula .now) (start .plan .now) (start .table .now) (start .out .now)
     (not-false _ (judging .if1 .left)) (begun .pre .0) (compiling .compile .ensures)
     (c .before .before .before .before .if2 .taken) (c .before .before .write-no-line2 .ensures)
 
@@ -54,9 +54,13 @@ print-plan-requires c κs =
     let compiling = c .before .before .before .before .before .before .before in
     let begun = compiling .before .before .before .before .before .before .before .before in
     let start = begun .args in (
-      formula-sound (start .n) (start .job) (start .formula .now) (start .plan .now) (start .table .now) (start .out .now)
+      formula-sound (start .tool) (start .n) (start .job) (start .formula .now) (start .plan .now) (start .table .now) (start .out .now)
           (begun .pre .0) (compiling .compile .ensures) (c .before .before .before .if2 .left),
-      (omega arith, omega arith),
+      (
+        formula-texts (start .tool) (start .n) (start .job) (start .formula .now) (start .plan .now) (start .table .now) (start .out .now)
+            (begun .pre .0) (compiling .compile .ensures) (c .before .before .before .if2 .left),
+        (omega arith, omega arith),
+      ),
     )
 
 same-length-4 : tie.Need-same-length-4
@@ -76,9 +80,8 @@ returns-3 c =
     let judging = compiling .before .before in
     let begun = judging .before .before .before .before .before .before in
     let start = begun .args in
-    formula-printed (start .n) (start .job) (start .formula .now) (start .plan .now) (start .table .now) (start .out .now)
-    (begun .pre .0) (compiling .compile .ensures) (refusing .if2 .left) (not-false _ (judging .if1 .left)) (begun .pre .1 .0)
-    (printed .0) (printed .1 .0) (printed .1 .1)
+    formula-printed (start .tool) (start .n) (start .job) (start .formula .now) (start .plan .now) (start .table .now) (start .out .now)
+    (begun .pre .0) (compiling .compile .ensures) (refusing .if2 .left) (not-false _ (judging .if1 .left)) (begun .pre .1 .0) printed
 
 pub print-job-spec : {M : Type 1} → statement M
 print-job-spec =

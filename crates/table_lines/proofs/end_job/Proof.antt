@@ -36,7 +36,7 @@ print-job-requires c κs =
     let args = c .before .before .before .before .before .before .before .before .before .before .args in
     let table = length-take-le 4096 (args .table .now) (omega arith) in
     let few = few-points (args .line .now) (args .defaults .now) (c .before .before .before .before .judge-job .ensures) in
-    (length-take-le planLength (args .plan .now) (omega arith), (omega (arith, table, few), (omega (arith, table), omega (arith, table))))
+    (length-take-le planLength (args .plan .now) (omega arith), (omega (arith, table, few), (omega (arith, table), omega arith)))
 
 same-length : tie.Need-same-length
 same-length c = search needs
@@ -51,7 +51,7 @@ returns : tie.Need-returns
 returns c =
     let picked = c .before .before .before .before .before .before .before .before .before .before in
     let args = picked .before .before .before .before .before .before .before .args in
-    job-ended (args .n) (args .line .now) (args .defaults .now) (args .plan .now) (args .table .now) (args .out .now) (omega arith)
+    job-ended (args .tool) (args .n) (args .line .now) (args .defaults .now) (args .plan .now) (args .table .now) (args .out .now) (omega arith)
     (picked .before .judge-job .ensures) (picked .pick .ensures) (c .before .before .before .before .before .before .print-job .ensures)
 
 pub end-job-spec : {M : Type 1} → statement M

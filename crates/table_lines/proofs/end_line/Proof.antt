@@ -46,7 +46,7 @@ same-length c = search needs
 returns : tie.Need-returns
 returns c =
     let args = c .before .before .before .before .before .before .before .before .before .before .before .args in
-    ended-header (args .progress) (args .line .now) (args .defaults .now) (args .plan .now) (args .table .now) (args .out .now)
+    ended-header (args .tool) (args .progress) (args .line .now) (args .defaults .now) (args .plan .now) (args .table .now) (args .out .now)
     (c .before .before .before .before .enum-told .given .1) (c .before .before .end-header .ensures)
 
 same-length-2 : tie.Need-same-length-2
@@ -58,7 +58,7 @@ same-length-3 c = search needs
 returns-2 : tie.Need-returns-2
 returns-2 c =
     let args = c .before .before .before .before .before .before .before .before .before .before .before .before .before .before .args in
-    ended-defaults (args .progress) (args .line .now) (args .defaults .now) (args .plan .now) (args .table .now) (args .out .now)
+    ended-defaults (args .tool) (args .progress) (args .line .now) (args .defaults .now) (args .plan .now) (args .table .now) (args .out .now)
     (c .before .before .before .before .before .before .before .enum-told2 .given .1) (c .before .before .before .before .end-defaults .ensures)
 
 same-length-4 : tie.Need-same-length-4
@@ -77,13 +77,13 @@ returns-3 : tie.Need-returns-3
 returns-3 c =
     let told = c .before .before .before .before .before .before .before .before .before .before .before .before .before in
     let args = told .before .before .before .before .before .before .before .args in
-    ended-job (args .progress) (args .line .now) (args .defaults .now) (args .plan .now) (args .table .now) (args .out .now)
+    ended-job (args .tool) (args .progress) (args .line .now) (args .defaults .now) (args .plan .now) (args .table .now) (args .out .now)
     (told .enum-told3 .given .1) (c .before .before .before .before .before .before .before .end-job .ensures)
 
 returns-4 : tie.Need-returns-4
 returns-4 c =
     let args = c .before .before .before .before .before .before .before .before .args in
-    ended-nothing (args .progress) (args .line .now) (args .defaults .now) (args .plan .now) (args .table .now) (args .out .now)
+    ended-nothing (args .tool) (args .progress) (args .line .now) (args .defaults .now) (args .plan .now) (args .table .now) (args .out .now)
     (c .before .enum-told4 .given .1) (c .ended .ensures)
 
 pub end-line-spec : {M : Type 1} → statement M

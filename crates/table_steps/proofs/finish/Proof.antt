@@ -18,7 +18,7 @@ returns : tie.Need-returns
 returns c =
     let args = c .before .before .before .before .before .before .before .before .args in
     let b = lent (args .line .now) (args .defaults .now) (args .plan .now) (args .table .now) (args .out .now) in
-    end-refused (args .progress) b (c .refused .ensures)
+    end-refused (args .tool) (args .progress) b (c .refused .ensures)
     (no-room (args .progress) b (c .before .before .have-room .ensures) (c .before .if1 .taken))
 
 is-within-bounds-requires : tie.Need-is-within-bounds-requires
@@ -31,7 +31,7 @@ returns-2 : tie.Need-returns-2
 returns-2 c =
     let args = c .before .before .before .before .before .before .before .before .before .before .args in
     let b = lent (args .line .now) (args .defaults .now) (args .plan .now) (args .table .now) (args .out .now) in
-    end-refused (args .progress) b (c .refused2 .ensures)
+    end-refused (args .tool) (args .progress) b (c .refused2 .ensures)
     (out-of-bounds (args .progress) b (c .before .before .before .before .have-room .ensures) (c .before .before .before .if1 .left)
     (c .before .before .is-within-bounds .ensures) (c .before .if2 .taken))
 
@@ -64,11 +64,13 @@ add-all c =
     let end = c .before .before .end-input in
     let lasted = c .before .before .before .before .before .before .before .before .before .before .before .before .before in
     let last = lasted .last-line in
+    let same = last .kept .1 .1 .1 .1 .1 .1 .0 in
     let good = lasted .before .before .before .before .before .before .before .before .before .before .before .before .before .before .good in
     omega (
       arith,
-      good .1 .1 .1 .1 .1 .0,
-      rear-fits (last .last .1 .1 .1 .1 .1 .0) (last .result .wrote) (omega arith) (end .ensures 0 0 []) (end .kept .1 .0),
+      good .1 .1 .1 .1 .1 .1 .0,
+      same,
+      rear-fits (last .last .1 .1 .1 .1 .1 .1 .0) (last .result .wrote) (omega (arith, last .ensures .1, same)) (end .ensures 0 0 []) (end .kept .1 .0),
     )
 
 ended-requires : tie.Need-ended-requires
@@ -97,8 +99,8 @@ returns-3 c =
     let so =
     accepted (args .progress) b (tests .before .before .before .have-room .ensures) (tests .before .before .if1 .left)
     (tests .before .is-within-bounds .ensures) (tests .if2 .left) in
-    end-done (args .progress) b (so .is-ready) (omega arith) (last .ensures .0)
-    (c .before .before .before .end-input .ensures (reached .number) (reached .kept) (last .last .1 .1 .0)) (c .ended .ensures)
+    end-done (args .tool) (args .progress) b (so .is-ready) (omega (arith, last .ensures .1, last .kept .1 .1 .1 .1 .1 .1 .0)) (last .ensures .0)
+    (c .before .before .before .end-input .ensures (reached .number) (reached .kept) (last .last .1 .1 .1 .0)) (c .ended .ensures)
 
 pub finish-spec : {M : Type 1} → statement M
 finish-spec =

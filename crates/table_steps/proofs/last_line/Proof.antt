@@ -12,7 +12,7 @@ returns : tie.Need-returns
 returns c =
     let args = c .before .before .before .before .before .before .args in
     let b = lent (args .line .now) (args .defaults .now) (args .plan .now) (args .table .now) (args .out .now) in
-    (last-none (args .progress) b (c .if1 .taken), omega arith)
+    (last-none (args .tool) (args .progress) b (c .if1 .taken), omega arith)
 
 sub-room : tie.Need-sub-room
 sub-room c = search needs
@@ -58,9 +58,9 @@ returns-2 c =
     let asked = some .before .before .before .before .before .before .pre in
     let b = lent (args .line .now) (args .defaults .now) (args .plan .now) (args .table .now) (args .out .now) in
     let room = length (args .out .now) - 67 in
-    let same = done .kept .1 .1 .1 .1 .1 .0 in
-    let fits = last-fits (args .progress) b (some .if1 .left) (asked .0) room (omega arith) (done .ensures) (omega (arith, same)) in (
-      last-some (args .progress) b (some .if1 .left) (asked .0) room (omega arith) (done .ensures) (omega (arith, same)),
+    let same = done .kept .1 .1 .1 .1 .1 .1 .0 in
+    let fits = last-fits (args .tool) (args .progress) b (some .if1 .left) (asked .0) room (omega arith) (done .ensures) (omega (arith, same)) in (
+      last-some (args .tool) (args .progress) b (some .if1 .left) (asked .0) room (omega arith) (done .ensures) (omega (arith, same)),
       omega (arith, fits, asked .1 .1 .1 .1 .1 .1),
     )
 

@@ -18,7 +18,7 @@ returns : tie.Need-returns
 returns c =
     let args = c .before .before .before .before .before .before .before .before .before .args in
     let b = lent (args .line .now) (args .defaults .now) (args .plan .now) (args .table .now) (args .out .now) in
-    step-refused (args .progress) b (args .input .now) (c .refused .ensures)
+    step-refused (args .tool) (args .progress) b (args .input .now) (c .refused .ensures)
     (no-room (args .progress) b (c .before .before .have-room .ensures) (c .before .if1 .taken))
 
 is-within-bounds-requires : tie.Need-is-within-bounds-requires
@@ -31,7 +31,7 @@ returns-2 : tie.Need-returns-2
 returns-2 c =
     let args = c .before .before .before .before .before .before .before .before .before .before .before .args in
     let b = lent (args .line .now) (args .defaults .now) (args .plan .now) (args .table .now) (args .out .now) in
-    step-refused (args .progress) b (args .input .now) (c .refused2 .ensures)
+    step-refused (args .tool) (args .progress) b (args .input .now) (c .refused2 .ensures)
     (out-of-bounds (args .progress) b (c .before .before .before .before .have-room .ensures) (c .before .before .before .if1 .left)
     (c .before .before .is-within-bounds .ensures) (c .before .if2 .taken))
 
@@ -71,7 +71,7 @@ returns-3 c =
     let so =
     accepted (args .progress) b (tests .before .before .before .have-room .ensures) (tests .before .before .if1 .left)
     (tests .before .is-within-bounds .ensures) (tests .if2 .left) in
-    step-within-line (args .progress) b (args .input .now) (so .is-ready) (found .result) (found .ensures)
+    step-within-line (args .tool) (args .progress) b (args .input .now) (so .is-ready) (found .result) (found .ensures)
     (c .before .before .before .hold .ensures) (c .if3 .taken)
 
 add-used : tie.Need-add-used
@@ -131,7 +131,7 @@ returns-4 c =
     let so =
     accepted (args .progress) b (tests .before .before .before .have-room .ensures) (tests .before .before .if1 .left)
     (tests .before .is-within-bounds .ensures) (tests .if2 .left) in
-    step-whole-line (args .progress) b (args .input .now) (so .is-ready) (found .result) (found .ensures)
+    step-whole-line (args .tool) (args .progress) b (args .input .now) (so .is-ready) (found .result) (found .ensures)
     (whole .before .before .before .hold .ensures) (whole .if3 .left)
     (c .before .before .before .before .before .before .before .before .before .end-line .ensures)
 

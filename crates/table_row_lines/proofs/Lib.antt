@@ -1,0 +1,2 @@
+-- Laws for the writers of a row's line.
+pub mod ReasonFields
