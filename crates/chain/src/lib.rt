@@ -2,7 +2,7 @@
 // The work on arrays of words is in `chain_arrays` and `chain_values`, the calls in `chain_calls` and `chain_coefficients`.
 
 // A refusal's number and place, 0 and 0 if accepted, and the trimmed chain: its length and its elements, 0 past them.
-#[derive(Drop)]
+#[derive(Clone, Copy)]
 pub struct ChainAnswer {
     pub number: u64,
     pub place: u64,
@@ -11,7 +11,7 @@ pub struct ChainAnswer {
 }
 
 // The same of a shift, and how its first element crossed: -1, 0 or 1, and 0 beside a refusal.
-#[derive(Drop)]
+#[derive(Clone, Copy)]
 pub struct ShiftAnswer {
     pub number: u64,
     pub place: u64,
@@ -21,7 +21,7 @@ pub struct ShiftAnswer {
 }
 
 // A refusal's number and place with the present value alone.
-#[derive(Drop)]
+#[derive(Clone, Copy)]
 pub struct ValueAnswer {
     pub number: u64,
     pub place: u64,

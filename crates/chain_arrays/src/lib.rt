@@ -16,7 +16,7 @@ pub const LONGEST: usize = 16;
 const NEGATIVE: u64 = 9223372036854775808;
 
 // What is worked out of two words.
-#[derive(Drop)]
+#[derive(Clone, Copy)]
 pub enum Operation {
     Sum,
     Difference,

@@ -47,7 +47,7 @@ const O: [u64; 17] = [
 ];
 
 // Three chains, each as a call answers it. One that no call has answered has the number and place of an accepted call.
-#[derive(Drop)]
+#[derive(Clone, Copy)]
 pub struct Stack {
     pub top: ChainAnswer,
     pub second: ChainAnswer,

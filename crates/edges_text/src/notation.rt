@@ -6,7 +6,7 @@ use crate::{text, words};
 
 // A token: how many bytes it writes in all; the part of the notation that it repeats, by its place and size, or the byte that it writes
 // where the size is 0; and where the next token begins.
-#[derive(Drop)]
+#[derive(Clone, Copy)]
 struct Piece {
     total: usize,
     from: usize,

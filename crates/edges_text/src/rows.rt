@@ -8,7 +8,7 @@ pub const ELEMENTS_END: usize = 1 + SPAN_START;
 
 pub const END_BYTE: usize = ELEMENTS_END + 1;
 
-#[derive(Drop)]
+#[derive(Clone, Copy)]
 pub struct Grid {
     pub start: u64,
     pub step: u64,

@@ -6,7 +6,7 @@ ghost use Rattle.table.specs.Parts.{before, after};
 use table_fields::fields;
 
 // Where a part of a text ends, and where the next one begins; the same place where no mark ends the part.
-#[derive(Drop)]
+#[derive(Clone, Copy)]
 pub struct Ends {
     pub end: usize,
     pub after: usize,

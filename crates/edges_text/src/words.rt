@@ -8,7 +8,7 @@ use crate::text;
 pub const UNREAD: u64 = 999;
 
 // The words of a list, at most 17 of them, and how many it has.
-#[derive(Drop)]
+#[derive(Clone, Copy)]
 pub struct Listed {
     pub words: [u64; 17],
     pub count: usize,

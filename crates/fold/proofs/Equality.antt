@@ -48,7 +48,7 @@ fold-trimmed w start step t =
     rows : (a : Folded) → is_constant a ≡ false → is_sum_chain a ≡ false → is_product_chain a ≡ false → TrimmedSum a
     rows a c s p e = absurd (either (is_constant a) (is_sum_chain a) e (λ t. false≢true (sym c ∙ t)) (λ t. false≢true (sym s ∙ t)))
 
--- ---- a well-formed one fits 17 words, and is made again from its elements
+-- ---- a well_formed one fits 17 words, and is made again from its elements
 record FitsRow (w : ℕ) (a : Folded) : Type 0 where
   short : length (elements a) ≤ 17
   as_words : words w (elements a) ≡ elements a

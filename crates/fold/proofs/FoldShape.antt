@@ -155,7 +155,7 @@ module _ {m : ℕ} (some : 0 < m) where
       go true = below_cons 0 [] some below_none
       go false = below_trimmed 1 f h k
 
--- ---- chains as folded trees, and the elements of a well-formed tree
+-- ---- chains as folded trees, and the elements of a well_formed tree
 module _ (w : ℕ) where
   of_sum-formed : (f : List ℕ) → Below (2 ^ w) f → length f ≤ 17 → WellFormed w (of_sum f)
   unfolding WellFormed

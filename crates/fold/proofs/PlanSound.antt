@@ -1,4 +1,4 @@
--- The plan of a well-formed tree with nested spans is sound: each row keeps the table of rows, given the rows before it, and came from some text.
+-- The plan of a well_formed tree with nested spans is sound: each row keeps the table of rows, given the rows before it, and came from some text.
 use mathlib.Core.Path.{◌≡◌, refl, ap, ap₂, subst, ◌∙◌}
 use mathlib.Core.Bool.{true, cond, ◌&&◌}
 use mathlib.Core.List.{List, [], ◌∷◌, ◌++◌}
@@ -99,7 +99,7 @@ module _ (whole : Span) (readable : Readable whole) where
         unfolding kind_facts all_zero Chain.row
         raise-row-sound odd = ap₂ ◌&&◌ both_earlier (ap₂ ◌&&◌ odd (span-sound 8 a b []))
 
--- ---- the rows of a well-formed tree, behind any earlier rows
+-- ---- the rows of a well_formed tree, behind any earlier rows
 sound-joined : (earlier f g : List Row) → sound_from earlier f ≡ true → sound_from (earlier ++ f) g ≡ true → sound_from earlier (f ++ g) ≡ true
 sound-joined earlier f g p q = sound-append earlier f g ∙ ap₂ ◌&&◌ p q
 

@@ -149,7 +149,7 @@ shifted_folded w (minus_row s a) = minus_row s (shifted_folded w a)
 shifted_folded w (power_row s a n) = power_row s (shifted_folded w a) n
 shifted_folded w (raise_row s a b) = raise_row s (shifted_folded w a) (shifted_folded w b)
 
--- It has as many rows, has at each index the value that the tree has at the next one, and is well-formed.
+-- It has as many rows, has at each index the value that the tree has at the next one, and is well_formed.
 count-shifted : (w : ℕ) (a : Folded) → row_count (shifted_folded w a) ≡ row_count a
 unfolding shifted_folded row_count
 count-shifted w (constant c) = refl

@@ -2,7 +2,7 @@
 // the code that folds is in the crates above.
 
 // The refusal's number and place; 0 and 0 if accepted.
-#[derive(Drop)]
+#[derive(Clone, Copy)]
 pub struct CompileAnswer {
     pub number: u64,
     pub place: u64,

@@ -12,7 +12,7 @@ pub const NUMBER: u64 = 0;
 pub const VARIABLE: u64 = 1;
 
 // The refusal's number and place; 0 and 0 if accepted.
-#[derive(Drop)]
+#[derive(Clone, Copy)]
 pub struct ReadAnswer {
     pub number: u64,
     pub place: u64,

@@ -9,7 +9,7 @@ use formula_packing::unpacked;
 use formula_scan::Found;
 
 // A formula's text and the place reached in it.
-#[derive(Drop)]
+#[derive(Clone, Copy)]
 pub struct Cursor<'a> {
     pub text: &'a [u8],
     pub place: usize,

@@ -10,7 +10,7 @@ pub const PLAIN_WORDS: usize = 2 * formula::MOST_NODES;
 pub const SPANNED_WORDS: usize = 4 * formula::MOST_NODES;
 
 // A number's end, its value if it fits a word (the largest word if not), whether it is over, and 1 if it is odd.
-#[derive(Drop)]
+#[derive(Clone, Copy)]
 pub struct Numeral {
     pub at: usize,
     pub value: u64,
@@ -20,7 +20,7 @@ pub struct Numeral {
 
 // What waits on the left of a sign that joins it to what is read next: the first byte of its text, the sign (0 if there is nothing yet), whether x
 // stands in it, 1 if its value is odd.
-#[derive(Drop)]
+#[derive(Clone, Copy)]
 pub struct Left {
     pub first: usize,
     pub sign: u8,
@@ -30,7 +30,7 @@ pub struct Left {
 
 // How far a reader came. If `ok`, it read a tree that ends before `at`: whether x stands in it, 1 if its value is odd, the nodes and the
 // least fault so far. If not, no formula goes on past `at`.
-#[derive(Drop)]
+#[derive(Clone, Copy)]
 pub struct Found {
     pub ok: bool,
     pub variable: bool,

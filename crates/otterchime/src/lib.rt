@@ -38,7 +38,7 @@ pub extern "C" fn otterchime_fill(
 )
     ensures answer_after { answer.new ≡ fill_words (fill 64 plan.old table.old budget).answer }
     ensures table_after { table.new ≡ (fill 64 plan.old table.old budget).table }
-    ensures plan_after_lem { plan.new ≡ (fill 64 plan.old table.old budget).plan }
+    ensures plan_after { plan.new ≡ (fill 64 plan.old table.old budget).plan }
 {
     let r = plan_fill::fill(plan, table, budget);
     *answer = [r.number, r.place, r.points as u64, r.spent];
@@ -54,7 +54,7 @@ pub extern "C" fn otterchime_fill_eras(
 )
     ensures answer_after { answer.new ≡ fill_eras_words (fill_eras 64 plan.old table.old budget).answer }
     ensures table_after { table.new ≡ (fill_eras 64 plan.old table.old budget).table }
-    ensures plan_after_lem { plan.new ≡ (fill_eras 64 plan.old table.old budget).plan }
+    ensures plan_after { plan.new ≡ (fill_eras 64 plan.old table.old budget).plan }
 {
     let r = plan_eras::fill_eras(plan, table, budget);
     let sum = r.sum;

@@ -18,21 +18,21 @@ pub const PLAN_WORDS: usize = 1 + MOST_ROWS * ROW_WORDS;
 pub const LONGEST_TEXT: u64 = 1024;
 
 // What a row of a kind always costs, and how many operand rows it has.
-#[derive(Drop)]
+#[derive(Clone, Copy)]
 pub struct Kind {
     pub cost: u64,
     pub operands: u64,
 }
 
 // The refusal's number and place, 0 and 0 for a sound plan.
-#[derive(Drop)]
+#[derive(Clone, Copy)]
 pub struct SoundAnswer {
     pub number: u64,
     pub place: u64,
 }
 
 // The same with the plan's cost, 0 if refused.
-#[derive(Drop)]
+#[derive(Clone, Copy)]
 pub struct CostAnswer {
     pub number: u64,
     pub place: u64,
@@ -40,7 +40,7 @@ pub struct CostAnswer {
 }
 
 // The same with the points written and the budget spent.
-#[derive(Drop)]
+#[derive(Clone, Copy)]
 pub struct FillAnswer {
     pub number: u64,
     pub place: u64,
@@ -49,7 +49,7 @@ pub struct FillAnswer {
 }
 
 // The same of filling with era count, and the crossings of the root over the points written, added up.
-#[derive(Drop)]
+#[derive(Clone, Copy)]
 pub struct FillErasAnswer {
     pub number: u64,
     pub place: u64,

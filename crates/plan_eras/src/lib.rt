@@ -37,7 +37,7 @@ fn count_points(plan: &mut [u64], table: &mut [u64], values: &mut [u64]) -> i64
     requires values_len { length values.old ≡ most_rows }
     ensures value { result ≡ eras_over 64 (length table.old) plan.old }
     ensures table_after { table.new ≡ point_values 64 (length table.old) plan.old }
-    ensures plan_after_lem { plan.new ≡ plan_after 64 (length table.old) plan.old }
+    ensures plan_after { plan.new ≡ plan_after 64 (length table.old) plan.old }
 {
     let mut sum = 0i64;
     let mut i = 0;
@@ -55,7 +55,7 @@ fn count_table(plan: &mut [u64], table: &mut [u64]) -> i64
     requires plan_value { sound plan.old ≡ true }
     ensures value { result ≡ eras_over 64 (length table.old) plan.old }
     ensures table_after { table.new ≡ point_values 64 (length table.old) plan.old }
-    ensures plan_after_lem { plan.new ≡ plan_after 64 (length table.old) plan.old }
+    ensures plan_after { plan.new ≡ plan_after 64 (length table.old) plan.old }
 {
     let mut values = [0; MOST_ROWS];
     count_points(plan, table, &mut values)
@@ -83,7 +83,7 @@ fn eras_refusal(plan: &[u64]) -> u64
 pub fn fill_eras(plan: &mut [u64], table: &mut [u64], budget: u64) -> FillErasAnswer
     ensures value { result ≡ (fill_eras 64 plan.old table.old budget).answer }
     ensures table_after { table.new ≡ (fill_eras 64 plan.old table.old budget).table }
-    ensures plan_after_lem { plan.new ≡ (fill_eras 64 plan.old table.old budget).plan }
+    ensures plan_after { plan.new ≡ (fill_eras 64 plan.old table.old budget).plan }
 {
     let number = eras_refusal(plan);
     if number != 0 {

@@ -15,7 +15,7 @@ fn fill_points(plan: &mut [u64], table: &mut [u64], values: &mut [u64])
     requires plan_value { sound plan.old ≡ true }
     requires values_len { length values.old ≡ most_rows }
     ensures table_after { table.new ≡ point_values 64 (length table.old) plan.old }
-    ensures plan_after_lem { plan.new ≡ plan_after 64 (length table.old) plan.old }
+    ensures plan_after { plan.new ≡ plan_after 64 (length table.old) plan.old }
 {
     let mut i = 0;
     while i < table.len() {
@@ -29,7 +29,7 @@ fn fill_table(plan: &mut [u64], table: &mut [u64])
     requires plan_length_in_bounds { plan_length ≤ length plan.old }
     requires plan_value { sound plan.old ≡ true }
     ensures table_after { table.new ≡ point_values 64 (length table.old) plan.old }
-    ensures plan_after_lem { plan.new ≡ plan_after 64 (length table.old) plan.old }
+    ensures plan_after { plan.new ≡ plan_after 64 (length table.old) plan.old }
 {
     let mut values = [0; MOST_ROWS];
     fill_points(plan, table, &mut values);
@@ -39,7 +39,7 @@ fn fill_table(plan: &mut [u64], table: &mut [u64])
 pub fn fill(plan: &mut [u64], table: &mut [u64], budget: u64) -> FillAnswer
     ensures value { result ≡ (fill 64 plan.old table.old budget).answer }
     ensures table_after { table.new ≡ (fill 64 plan.old table.old budget).table }
-    ensures plan_after_lem { plan.new ≡ (fill 64 plan.old table.old budget).plan }
+    ensures plan_after { plan.new ≡ (fill 64 plan.old table.old budget).plan }
 {
     let number = refusal(plan);
     if number != 0 {

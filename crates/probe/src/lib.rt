@@ -7,7 +7,7 @@ ghost use Rattle.probe.specs.Probe.{offset, verdict, verdict_word, probe_answer,
 const HALF: u64 = 9223372036854775808;
 
 // What the probe says of a reading. A refused probe says nothing.
-#[derive(Drop)]
+#[derive(Clone, Copy)]
 pub enum Verdict {
     NoVerdict,
     Within,
@@ -17,7 +17,7 @@ pub enum Verdict {
 }
 
 // The refusal's number and place, both 0 where the call is accepted; the offset and the verdict on it.
-#[derive(Drop)]
+#[derive(Clone, Copy)]
 pub struct ProbeAnswer {
     pub number: u64,
     pub place: u64,

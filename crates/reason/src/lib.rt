@@ -2,7 +2,7 @@
 // lives here; the call is in `reason_call`.
 
 // The refusal's number and place, 0 and 0 if accepted; the reason, 0 if there is none; and the row's first and end byte.
-#[derive(Drop)]
+#[derive(Clone, Copy)]
 pub struct ReasonAnswer {
     pub number: u64,
     pub place: u64,
@@ -12,7 +12,7 @@ pub struct ReasonAnswer {
 }
 
 // What the folding rules see of an operand: its kind, the length of its chain and its first element; length and element are 0 of an operator.
-#[derive(Drop)]
+#[derive(Clone, Copy)]
 pub struct Seen {
     pub kind: u64,
     pub length: usize,

@@ -3,28 +3,28 @@
 
 // The tools that run over a job file: the table printer, which prints an accepted job's points, and the row explainer, which prints its rows and why they are
 // still there.
-#[derive(Drop)]
+#[derive(Clone, Copy)]
 pub enum Tool {
     Tables,
     Reasons,
 }
 
 // Whether a field holds a number that is small enough, and the number; 0 if it doesn't.
-#[derive(Drop)]
+#[derive(Clone, Copy)]
 pub struct FieldNumber {
     pub ok: bool,
     pub value: u64,
 }
 
 // Refused 11 at a place, or taken.
-#[derive(Drop)]
+#[derive(Clone, Copy)]
 pub struct DefaultsLine {
     pub ok: bool,
     pub place: u64,
 }
 
 // Refused 11 at a place, or taken with the numbers of its fields.
-#[derive(Drop)]
+#[derive(Clone, Copy)]
 pub struct JobLine {
     pub ok: bool,
     pub place: u64,

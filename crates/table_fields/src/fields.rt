@@ -3,14 +3,19 @@
 ghost use Rattle.std.specs.Prelude.{◌≡◌, ◌+◌, ◌≤◌, length, drop};
 ghost use Rattle.table.specs.Parts.{before, after_tabs, field, field_count, picked};
 
-use bytes::scan;
-
 // The place of the first such byte at or after a place, or the length.
 pub fn find(text: &[u8], from: usize, byte: u8) -> usize
     requires { from ≤ length text.now }
     ensures { result ≡ from + length (before byte (drop from text.now)) }
 {
-    scan::find(text, from, text.len(), byte)
+    let mut at = from;
+    while at < text.len() {
+        if text[at] == byte {
+            return at;
+        }
+        at += 1;
+    }
+    at
 }
 
 // The place behind the first n tabs, or the length.

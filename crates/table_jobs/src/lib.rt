@@ -17,7 +17,7 @@ fn print_points(plan: &mut [u64], table: &mut [u64], out: &mut [u8], at: usize) 
     requires table_len_bound { length table.old ≤ 4096 }
     requires table_in_bounds { at + 42 * length table.old ≤ length out.old }
     ensures wrote { Wrote out.old at (point_lines 0 (point_values 64 (length table.old) plan.old)) result out.new }
-    ensures plan_after_lem { plan.new ≡ plan_left Tables (length table.old) plan.old }
+    ensures plan_after { plan.new ≡ plan_left Tables (length table.old) plan.old }
     ensures table_after { table.new ≡ table_left Tables (length table.old) plan.old table.old }
 {
     plan_fill::fill(plan, table, u64::MAX);

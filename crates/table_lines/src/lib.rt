@@ -68,7 +68,7 @@ fn end_defaults(line: &[u8], defaults: &mut [u8], out: &mut [u8]) -> LineDone
             wrote,
         };
     }
-    bytes::copy(line, defaults);
+    defaults[0..line.len()].copy_from_slice(line);
     LineDone {
         progress: Progress {
             awaited: Awaited::Job,
@@ -94,7 +94,7 @@ fn end_job<'a>(
     requires in_bounds { 4096 ≤ length table.old }
     requires in_bounds_2 { 67 + 42 * 4096 ≤ length out.old }
     ensures wrote { Wrote out.old 0 (job_prints tool n line.now defaults.now) result out.new }
-    ensures plan_after_lem { plan.new ≡ plan_after_line tool (a_job defaults.now n) line.now plan.old }
+    ensures plan_after { plan.new ≡ plan_after_line tool (a_job defaults.now n) line.now plan.old }
     ensures table_after { table.new ≡ table_after_line tool (a_job defaults.now n) line.now table.old }
 {
     let judged = table_line_checks::judge_job(line, defaults);
@@ -129,7 +129,7 @@ pub fn end_line(
     ensures progress_value { result.progress ≡ progress_after progress line.now }
     ensures wrote { Wrote out.old 0 (line_prints tool (awaits progress defaults.old) line.now) result.wrote out.new }
     ensures defaults_after { defaults.new ≡ defaults_after (awaits progress defaults.old) line.now defaults.old }
-    ensures plan_after_lem { plan.new ≡ plan_after_line tool (awaits progress defaults.old) line.now plan.old }
+    ensures plan_after { plan.new ≡ plan_after_line tool (awaits progress defaults.old) line.now plan.old }
     ensures table_after { table.new ≡ table_after_line tool (awaits progress defaults.old) line.now table.old }
 {
     let awaited = progress.awaited;

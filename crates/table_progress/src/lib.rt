@@ -2,7 +2,7 @@
 // A whole line is done in `table_lines`, the input is taken step by step in `table_steps`; what a run prints, as 01 says it, is in `table`.
 
 // Which line comes next.
-#[derive(Drop)]
+#[derive(Clone, Copy)]
 pub enum Awaited {
     Header,
     Defaults,
@@ -11,7 +11,7 @@ pub enum Awaited {
 }
 
 // Where a run stands: the line that comes next, the next job's number, the bytes held of the line under way, and those kept of the defaults line.
-#[derive(Drop)]
+#[derive(Clone, Copy)]
 pub struct Progress {
     pub awaited: Awaited,
     pub number: u64,
@@ -20,7 +20,7 @@ pub struct Progress {
 }
 
 // Whether the step was done, where the run stands now, the input bytes used and the output bytes written.
-#[derive(Drop)]
+#[derive(Clone, Copy)]
 pub struct Stepped {
     pub ok: bool,
     pub progress: Progress,
@@ -29,7 +29,7 @@ pub struct Stepped {
 }
 
 // Where the run stands after a line, and the bytes that the line printed.
-#[derive(Drop)]
+#[derive(Clone, Copy)]
 pub struct LineDone {
     pub progress: Progress,
     pub wrote: usize,

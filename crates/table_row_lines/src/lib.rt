@@ -20,7 +20,7 @@ fn write_text(out: &mut [u8], at: usize, text: &[u8]) -> usize
 {
     let behind_tab = numerals::write_byte(out, at, b'\t');
     let end = behind_tab + text.len();
-    bytes::copy(text, &mut out[behind_tab..end]);
+    out[behind_tab..end].copy_from_slice(text);
     end
 }
 

@@ -11,14 +11,14 @@ use table_progress::{Progress, Stepped};
 const MOST_PRINTED: usize = 172166;
 
 // Whether the writing goes on, and how much of the output buffer is filled.
-#[derive(Drop)]
+#[derive(Clone, Copy)]
 struct Room {
     ok: bool,
     filled: usize,
 }
 
 // Whether the run goes on, where it stands, how much input the last step used, and how much of the output buffer is filled.
-#[derive(Drop)]
+#[derive(Clone, Copy)]
 struct Going {
     ok: bool,
     progress: Progress,

@@ -87,10 +87,10 @@ fn hold(line: &mut [u8], held: usize, more: &[u8]) -> usize
     let room = HELD_AT_MOST - held;
     if more.len() <= room {
         let end = held + more.len();
-        bytes::copy(more, &mut line[held..end]);
+        line[held..end].copy_from_slice(more);
         return end;
     }
-    bytes::copy(&more[0..room], &mut line[held..HELD_AT_MOST]);
+    line[held..HELD_AT_MOST].copy_from_slice(&more[0..room]);
     HELD_AT_MOST
 }
 

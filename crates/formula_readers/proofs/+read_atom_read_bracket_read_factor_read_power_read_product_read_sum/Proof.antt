@@ -166,10 +166,10 @@ read-atom-returns : (t : ℕ) → read-atom-lts.Need-returns (read-atom-claims t
 read-atom-returns t c = atom_bracket c.before.before.before.before.before.before.before.before.args.text.now c.before.before.before.before.before.before.before.before.args.at c.before.before.before.before.before.before.before.before.args.nodes c.before.before.before.before.before.before.before.before.args.fault _ _ _ (sym c.before.before.before.before.before.byte_at.ensures ∙ c.before.before.before.before.if1.true) c.before.before.read-bracket.ensures
 
 read-atom-add-end : (t : ℕ) → read-atom-lts.Need-overflow-add-end (read-atom-claims t) (read-atom-at t) read-atom.Post
-read-atom-add-end t c = omega (arith, c.before.before.before.before.before.requires.1.0, c.before.before.before.before.before.well-formed.0.0)
+read-atom-add-end t c = omega (arith, c.before.before.before.before.before.requires.1.0, c.before.before.before.before.before.well_formed.0.0)
 
 read-atom-noted-requires : (t : ℕ) → read-atom-lts.Need-noted-requires (read-atom-claims t) (read-atom-at t) read-atom.Post
-read-atom-noted-requires t c κs = omega (arith, c.before.before.before.before.before.before.requires.1.0, c.before.before.before.before.before.before.requires.1.1.0, c.before.before.before.before.before.before.well-formed.0.1)
+read-atom-noted-requires t c κs = omega (arith, c.before.before.before.before.before.before.requires.1.0, c.before.before.before.before.before.before.requires.1.1.0, c.before.before.before.before.before.before.well_formed.0.1)
 
 read-atom-same-length-2 : (t : ℕ) → read-atom-lts.Need-same-length-2 (read-atom-claims t) (read-atom-at t) read-atom.Post
 read-atom-same-length-2 t c = search rules
@@ -190,13 +190,13 @@ read-atom-read-number-requires : (t : ℕ) → read-atom-lts.Need-read-number-re
 read-atom-read-number-requires t c κs = rw (← c.before.before.before.before.byte_at.ensures) (digit_test c.before.before.before.before.byte_at.result (sym c.before.is_digit.ensures ∙ not-false _ c.if3.false))
 
 read-atom-number-fault-requires : (t : ℕ) → read-atom-lts.Need-number-fault-requires (read-atom-claims t) (read-atom-at t) read-atom.Post
-read-atom-number-fault-requires t c κs = omega (arith, c.before.before.before.before.before.before.before.before.requires.1.0, c.before.before.before.before.before.before.before.before.well-formed.0.1)
+read-atom-number-fault-requires t c κs = omega (arith, c.before.before.before.before.before.before.before.before.requires.1.0, c.before.before.before.before.before.before.before.before.well_formed.0.1)
 
 read-atom-lesser-requires : (t : ℕ) → read-atom-lts.Need-lesser-requires (read-atom-claims t) (read-atom-at t) read-atom.Post
 read-atom-lesser-requires t c κs = search rules
 
 read-atom-noted-requires-2 : (t : ℕ) → read-atom-lts.Need-noted-requires-2 (read-atom-claims t) (read-atom-at t) read-atom.Post
-read-atom-noted-requires-2 t c κs = omega (arith, c.before.before.before.before.before.before.before.before.before.before.before.requires.1.0, c.before.before.before.before.before.before.before.before.before.before.before.requires.1.1.0, c.before.before.before.before.before.before.before.before.before.before.before.well-formed.0.1)
+read-atom-noted-requires-2 t c κs = omega (arith, c.before.before.before.before.before.before.before.before.before.before.before.requires.1.0, c.before.before.before.before.before.before.before.before.before.before.before.requires.1.1.0, c.before.before.before.before.before.before.before.before.before.before.before.well_formed.0.1)
 
 read-atom-same-length-3 : (t : ℕ) → read-atom-lts.Need-same-length-3 (read-atom-claims t) (read-atom-at t) read-atom.Post
 read-atom-same-length-3 t c = search rules
@@ -219,7 +219,7 @@ read-bracket-claims t = (
 )
 
 read-bracket-add-read-sum : (t : ℕ) → read-bracket-lts.Need-overflow-add-read-sum (read-bracket-claims t) (read-bracket-at t) read-bracket.Post
-read-bracket-add-read-sum t c = omega (arith, c.before.before.before.requires.1.0, c.before.before.before.well-formed.0.0)
+read-bracket-add-read-sum t c = omega (arith, c.before.before.before.requires.1.0, c.before.before.before.well_formed.0.0)
 
 read-bracket-read-sum-requires : (t : ℕ) → read-bracket-lts.Need-read-sum-requires (read-bracket-claims t) (read-bracket-at t) read-bracket.Post
 read-bracket-read-sum-requires t c κs = (omega (arith, c.before.before.before.requires.0, c.before.before.before.requires.1.0), (omega (arith, c.before.before.before.requires.1.0), (omega (arith, c.before.before.before.requires.1.1.0), c.before.before.before.requires.1.1.1)))
@@ -249,7 +249,7 @@ read-bracket-returns-2 : (t : ℕ) → read-bracket-lts.Need-returns-2 (read-bra
 read-bracket-returns-2 t c = bracket_open c.before.before.before.before.before.before.before.before.before.before.before.before.args.text.now c.before.before.before.before.before.before.before.before.before.before.before.before.args.at c.before.before.before.before.before.before.before.before.before.before.before.before.args.nodes c.before.before.before.before.before.before.before.before.before.before.before.before.args.fault _ c.before.before.before.before.before.unpacked.result _ (got (same_read c.before.before.before.before.before.unpacked.ensures c.before.before.before.before.before.before.before.before.read-sum.ensures) (not-false _ c.before.before.before.if1.false)) (λ e. c.before.if2.true (c.before.before.byte_at.ensures ∙ e)) _ c.stopped2.ensures
 
 read-bracket-beyond-requires : (t : ℕ) → read-bracket-lts.Need-beyond-requires (read-bracket-claims t) (read-bracket-at t) read-bracket.Post
-read-bracket-beyond-requires t c κs = omega (arith, c.before.before.before.before.before.before.before.before.before.before.before.well-formed.0.0, (got (same_read c.before.before.before.before.unpacked.ensures c.before.before.before.before.before.before.before.read-sum.ensures) (not-false _ c.before.before.if1.false)).inside)
+read-bracket-beyond-requires t c κs = omega (arith, c.before.before.before.before.before.before.before.before.before.before.before.well_formed.0.0, (got (same_read c.before.before.before.before.unpacked.ensures c.before.before.before.before.before.before.before.read-sum.ensures) (not-false _ c.before.before.if1.false)).inside)
 
 read-bracket-same-length-3 : (t : ℕ) → read-bracket-lts.Need-same-length-3 (read-bracket-claims t) (read-bracket-at t) read-bracket.Post
 read-bracket-same-length-3 t c = search rules
@@ -280,7 +280,7 @@ read-factor-returns : (t : ℕ) → read-factor-lts.Need-returns (read-factor-cl
 read-factor-returns t c = factor_lost c.before.before.before.before.before.before.before.before.before.args.text.now c.before.before.before.before.before.before.before.before.before.args.at c.before.before.before.before.before.before.after-minus-signs.result c.before.before.before.before.before.before.before.before.before.args.nodes c.before.before.before.before.before.before.before.before.before.args.fault _ _ _ c.before.before.before.before.before.before.after-minus-signs.ensures c.before.before.before.before.read-power.ensures (not-true _ c.if1.true)
 
 read-factor-negated-requires : (t : ℕ) → read-factor-lts.Need-negated-requires (read-factor-claims t) (read-factor-at t) read-factor.Post
-read-factor-negated-requires t c κs = let power = got c.before.before.before.before.before.read-power.ensures (not-false _ c.before.if1.false) in (not-false _ c.before.if1.false, omega (arith, power.counted, power.room, power.inside, c.before.before.before.before.before.before.before.after-minus-signs.ensures.onward, c.before.before.before.before.before.before.before.before.before.before.requires.1.1.0, c.before.before.before.before.before.before.before.before.before.before.well-formed.0.1))
+read-factor-negated-requires t c κs = let power = got c.before.before.before.before.before.read-power.ensures (not-false _ c.before.if1.false) in (not-false _ c.before.if1.false, omega (arith, power.counted, power.room, power.inside, c.before.before.before.before.before.before.before.after-minus-signs.ensures.onward, c.before.before.before.before.before.before.before.before.before.before.requires.1.1.0, c.before.before.before.before.before.before.before.before.before.before.well_formed.0.1))
 
 read-factor-same-length-2 : (t : ℕ) → read-factor-lts.Need-same-length-2 (read-factor-claims t) (read-factor-at t) read-factor.Post
 read-factor-same-length-2 t c = search rules
@@ -333,7 +333,7 @@ read-power-returns-2 : (t : ℕ) → read-power-lts.Need-returns-2 (read-power-c
 read-power-returns-2 t c = power-plain c.before.before.before.before.before.before.before.before.before.before.args.text.now c.before.before.before.before.before.before.before.before.before.before.args.at c.before.before.before.before.before.before.before.before.before.before.args.nodes c.before.before.before.before.before.before.before.before.before.before.args.fault _ _ _ (got c.before.before.before.before.before.before.read-atom.ensures (not-false _ c.before.before.if1.false)) (λ e. c.if2.true (c.before.byte_at.ensures ∙ e))
 
 read-power-add-place : (t : ℕ) → read-power-lts.Need-overflow-add-place (read-power-claims t) (read-power-at t) read-power.Post
-read-power-add-place t c = omega (arith, (got c.before.before.before.before.before.before.read-atom.ensures (not-false _ c.before.before.if1.false)).inside, c.before.before.before.before.before.before.before.before.before.before.well-formed.0.0)
+read-power-add-place t c = omega (arith, (got c.before.before.before.before.before.before.read-atom.ensures (not-false _ c.before.before.if1.false)).inside, c.before.before.before.before.before.before.before.before.before.before.well_formed.0.0)
 
 read-power-byte-at-requires-2 : (t : ℕ) → read-power-lts.Need-byte-at-requires-2 (read-power-claims t) (read-power-at t) read-power.Post
 read-power-byte-at-requires-2 t c κs = search rules
@@ -345,7 +345,7 @@ read-power-read-number-requires : (t : ℕ) → read-power-lts.Need-read-number-
 read-power-read-number-requires t c κs = rw (← c.before.before.byte-at2.ensures) (digit_test c.before.before.byte-at2.result (sym c.before.is_digit.ensures ∙ c.if3.true))
 
 read-power-literal-power-requires : (t : ℕ) → read-power-lts.Need-literal-power-requires (read-power-claims t) (read-power-at t) read-power.Post
-read-power-literal-power-requires t c κs = let base = got c.before.before.before.before.before.before.before.before.before.before.before.read-atom.ensures (not-false _ c.before.before.before.before.before.before.before.if1.false) in (omega (arith, base.counted, base.room, base.inside, c.before.before.before.before.before.before.before.before.before.before.before.before.before.before.before.requires.1.1.0, c.before.before.before.before.before.before.before.before.before.before.before.before.before.before.before.well-formed.0.1), omega (arith, inside c.before.before.before.before.before.before.before.before.before.before.before.before.before.before.before.args.text.now c.before.before.before.before.before.before.before.before.before.before.before.read-atom.result.at (omega (arith, c.before.before.before.before.before.before.byte_at.ensures, c.before.before.before.before.before.if2.false)), c.before.before.before.before.before.before.before.before.before.before.before.before.before.before.before.well-formed.0.1))
+read-power-literal-power-requires t c κs = let base = got c.before.before.before.before.before.before.before.before.before.before.before.read-atom.ensures (not-false _ c.before.before.before.before.before.before.before.if1.false) in (omega (arith, base.counted, base.room, base.inside, c.before.before.before.before.before.before.before.before.before.before.before.before.before.before.before.requires.1.1.0, c.before.before.before.before.before.before.before.before.before.before.before.before.before.before.before.well_formed.0.1), omega (arith, inside c.before.before.before.before.before.before.before.before.before.before.before.before.before.before.before.args.text.now c.before.before.before.before.before.before.before.before.before.before.before.read-atom.result.at (omega (arith, c.before.before.before.before.before.before.byte_at.ensures, c.before.before.before.before.before.if2.false)), c.before.before.before.before.before.before.before.before.before.before.before.before.before.before.before.well_formed.0.1))
 
 read-power-same-length-3 : (t : ℕ) → read-power-lts.Need-same-length-3 (read-power-claims t) (read-power-at t) read-power.Post
 read-power-same-length-3 t c = search rules
@@ -363,7 +363,7 @@ read-power-returns-4 : (t : ℕ) → read-power-lts.Need-returns-4 (read-power-c
 read-power-returns-4 t c = no_exponent c.before.before.before.before.before.before.before.before.before.before.before.before.before.before.before.args.text.now c.before.before.before.before.before.before.before.before.before.before.before.before.before.before.before.args.at c.before.before.before.before.before.before.before.before.before.before.before.before.before.before.before.args.nodes c.before.before.before.before.before.before.before.before.before.before.before.before.before.before.before.args.fault _ c.before.before.before.before.before.before.before.before.before.before.before.read-atom.result _ (got c.before.before.before.before.before.before.before.before.before.before.before.read-atom.ensures (not-false _ c.before.before.before.before.before.before.before.if1.false)) (sym c.before.before.before.before.before.before.byte_at.ensures ∙ c.before.before.before.before.before.if2.false) (λ e. c.before.if4.true (c.before.before.before.before.byte-at2.ensures ∙ e)) (λ d. no_digit_test c.before.before.before.before.byte-at2.result (sym c.before.before.before.is_digit.ensures ∙ c.before.before.if3.false) (rw c.before.before.before.before.byte-at2.ensures d)) _ _ c.stopped.ensures
 
 read-power-base-fault-requires : (t : ℕ) → read-power-lts.Need-base-fault-requires (read-power-claims t) (read-power-at t) read-power.Post
-read-power-base-fault-requires t c κs = omega (arith, (got c.before.before.before.before.before.before.before.before.before.before.read-atom.ensures (not-false _ c.before.before.before.before.before.before.if1.false)).inside, c.before.before.before.before.before.before.before.before.before.before.before.before.before.before.well-formed.0.1)
+read-power-base-fault-requires t c κs = omega (arith, (got c.before.before.before.before.before.before.before.before.before.before.read-atom.ensures (not-false _ c.before.before.before.before.before.before.if1.false)).inside, c.before.before.before.before.before.before.before.before.before.before.before.before.before.before.well_formed.0.1)
 
 read-power-lesser-requires : (t : ℕ) → read-power-lts.Need-lesser-requires (read-power-claims t) (read-power-at t) read-power.Post
 read-power-lesser-requires t c κs = search rules
@@ -381,7 +381,7 @@ read-power-both-requires : (t : ℕ) → read-power-lts.Need-both-requires (read
 read-power-both-requires t c κs = search rules
 
 read-power-noted-requires : (t : ℕ) → read-power-lts.Need-noted-requires (read-power-claims t) (read-power-at t) read-power.Post
-read-power-noted-requires t c κs = let base = got c.before.before.before.before.before.before.before.before.before.before.before.before.before.before.before.before.before.before.before.before.read-atom.ensures (not-false _ c.before.before.before.before.before.before.before.before.before.before.before.before.before.before.before.before.if1.false) in let power = got c.before.before.before.before.before.before.read-bracket.ensures (not-false _ c.before.before.if5.false) in omega (arith, ap (λ (f : Found). f.nodes) c.both.ensures, base.counted, base.room, power.counted, power.room, power.inside, c.before.before.before.before.before.before.before.before.before.before.before.before.before.before.before.before.before.before.before.before.before.before.before.before.requires.1.1.0, c.before.before.before.before.before.before.before.before.before.before.before.before.before.before.before.before.before.before.before.before.before.before.before.before.well-formed.0.1)
+read-power-noted-requires t c κs = let base = got c.before.before.before.before.before.before.before.before.before.before.before.before.before.before.before.before.before.before.before.before.read-atom.ensures (not-false _ c.before.before.before.before.before.before.before.before.before.before.before.before.before.before.before.before.if1.false) in let power = got c.before.before.before.before.before.before.read-bracket.ensures (not-false _ c.before.before.if5.false) in omega (arith, ap (λ (f : Found). f.nodes) c.both.ensures, base.counted, base.room, power.counted, power.room, power.inside, c.before.before.before.before.before.before.before.before.before.before.before.before.before.before.before.before.before.before.before.before.before.before.before.before.requires.1.1.0, c.before.before.before.before.before.before.before.before.before.before.before.before.before.before.before.before.before.before.before.before.before.before.before.before.well_formed.0.1)
 
 read-power-same-length-6 : (t : ℕ) → read-power-lts.Need-same-length-6 (read-power-claims t) (read-power-at t) read-power.Post
 read-power-same-length-6 t c = c.before.before.noted.auto.0 ∙ c.before.before.before.before.before.before.before.before.before.read-bracket.auto.1.0 ∙ c.before.before.before.before.before.before.before.before.before.before.before.before.before.before.before.before.before.before.before.before.before.before.before.read-atom.auto.1.0
@@ -435,7 +435,7 @@ read-product-left-of-requires : (t : ℕ) → read-product-lts.Need-left-of-requ
 read-product-left-of-requires t c κs = search rules
 
 read-product-joined-product-requires : (t : ℕ) → read-product-lts.Need-joined-product-requires (read-product-claims t) (read-product-at t) read-product.Post read-product-Inv-loop read-product-μ-loop
-read-product-joined-product-requires t c κs = let so = product-onward c.before.before.before.before.before.before.before.before.before.before.before.before.before.requires.1.0 c.before.before.before.before.before.before.before.before.loop.invariant.0 in let factor = got c.before.before.before.before.before.before.read-factor.ensures (not-false _ c.before.before.if1.false) in (omega (arith, got_few factor (so.few c.before.before.before.before.before.before.before.before.before.before.before.before.before.requires.1.1.0), factor.inside, c.before.before.before.before.before.before.before.before.before.before.before.before.before.well-formed.0.1), (omega (arith, so.odd-small, ap (λ (x : Left). x.odd) (c.before.left-of.ensures ∙ c.before.before.before.before.before.before.before.before.loop.invariant.1)), got_odd factor))
+read-product-joined-product-requires t c κs = let so = product-onward c.before.before.before.before.before.before.before.before.before.before.before.before.before.requires.1.0 c.before.before.before.before.before.before.before.before.loop.invariant.0 in let factor = got c.before.before.before.before.before.before.read-factor.ensures (not-false _ c.before.before.if1.false) in (omega (arith, got_few factor (so.few c.before.before.before.before.before.before.before.before.before.before.before.before.before.requires.1.1.0), factor.inside, c.before.before.before.before.before.before.before.before.before.before.before.before.before.well_formed.0.1), (omega (arith, so.odd-small, ap (λ (x : Left). x.odd) (c.before.left-of.ensures ∙ c.before.before.before.before.before.before.before.before.loop.invariant.1)), got_odd factor))
 
 read-product-byte-at-requires : (t : ℕ) → read-product-lts.Need-byte-at-requires (read-product-claims t) (read-product-at t) read-product.Post read-product-Inv-loop read-product-μ-loop
 read-product-byte-at-requires t c κs = search rules
@@ -447,7 +447,7 @@ read-product-returns-2 : (t : ℕ) → read-product-lts.Need-returns-2 (read-pro
 read-product-returns-2 t c = product-ends (product-joined c.before.before.before.before.before.before.before.before.before.before.before.before.before.loop.invariant.0 c.before.before.before.before.before.before.before.before.before.before.before.read-factor.ensures c.before.before.before.before.before.before.left-of.result (c.before.before.before.before.before.before.left-of.ensures ∙ c.before.before.before.before.before.before.before.before.before.before.before.before.before.loop.invariant.1) (not-false _ c.before.before.before.before.before.before.before.if1.false) c.before.before.before.before.joined-product.result _ c.before.before.before.before.joined-product.ensures.0 c.before.before.before.before.joined-product.ensures.1) (λ e. c.if2.true (c.before.byte_at.ensures ∙ e))
 
 read-product-beyond-requires : (t : ℕ) → read-product-lts.Need-beyond-requires (read-product-claims t) (read-product-at t) read-product.Post read-product-Inv-loop read-product-μ-loop
-read-product-beyond-requires t c κs = let whole = product-joined c.before.before.before.before.before.before.before.before.before.before.before.before.before.loop.invariant.0 c.before.before.before.before.before.before.before.before.before.before.before.read-factor.ensures c.before.before.before.before.before.before.left-of.result (c.before.before.before.before.before.before.left-of.ensures ∙ c.before.before.before.before.before.before.before.before.before.before.before.before.before.loop.invariant.1) (not-false _ c.before.before.before.before.before.before.before.if1.false) c.before.before.before.before.joined-product.result _ c.before.before.before.before.joined-product.ensures.0 c.before.before.before.before.joined-product.ensures.1 in omega (arith, whole.inside, c.before.before.before.before.before.before.before.before.before.before.before.before.before.before.before.before.before.before.well-formed.0.1)
+read-product-beyond-requires t c κs = let whole = product-joined c.before.before.before.before.before.before.before.before.before.before.before.before.before.loop.invariant.0 c.before.before.before.before.before.before.before.before.before.before.before.read-factor.ensures c.before.before.before.before.before.before.left-of.result (c.before.before.before.before.before.before.left-of.ensures ∙ c.before.before.before.before.before.before.before.before.before.before.before.before.before.loop.invariant.1) (not-false _ c.before.before.before.before.before.before.before.if1.false) c.before.before.before.before.joined-product.result _ c.before.before.before.before.joined-product.ensures.0 c.before.before.before.before.joined-product.ensures.1 in omega (arith, whole.inside, c.before.before.before.before.before.before.before.before.before.before.before.before.before.before.before.before.before.before.well_formed.0.1)
 
 read-product-held-requires-2 : (t : ℕ) → read-product-lts.Need-held-requires-2 (read-product-claims t) (read-product-at t) read-product.Post read-product-Inv-loop read-product-μ-loop
 read-product-held-requires-2 t c κs = let whole = product-joined c.before.before.before.before.before.before.before.before.before.before.before.before.before.before.loop.invariant.0 c.before.before.before.before.before.before.before.before.before.before.before.before.read-factor.ensures c.before.before.before.before.before.before.before.left-of.result (c.before.before.before.before.before.before.before.left-of.ensures ∙ c.before.before.before.before.before.before.before.before.before.before.before.before.before.before.loop.invariant.1) (not-false _ c.before.before.before.before.before.before.before.before.if1.false) c.before.before.before.before.before.joined-product.result _ c.before.before.before.before.before.joined-product.ensures.0 c.before.before.before.before.before.joined-product.ensures.1 in (omega (arith, ap (λ (x : Left). x.first) (c.before.before.before.before.before.before.before.left-of.ensures ∙ c.before.before.before.before.before.before.before.before.before.before.before.before.before.before.loop.invariant.1), c.before.before.before.before.before.before.before.before.before.before.before.before.before.before.before.before.before.before.before.requires.1.0, c.before.before.before.before.before.before.before.before.before.before.before.before.before.before.before.before.before.before.before.requires.1.1.1.0), omega (arith, ap (λ (x : Found). x.odd) c.beyond.ensures, got_odd whole))
@@ -516,7 +516,7 @@ read-sum-left-of-requires : (t : ℕ) → read-sum-lts.Need-left-of-requires (re
 read-sum-left-of-requires t c κs = search rules
 
 read-sum-joined-sum-requires : (t : ℕ) → read-sum-lts.Need-joined-sum-requires (read-sum-claims t) (read-sum-at t) read-sum.Post read-sum-Inv-loop read-sum-μ-loop
-read-sum-joined-sum-requires t c κs = let so = sum-onward c.before.before.before.before.before.before.before.before.before.before.before.before.before.requires.1.0 c.before.before.before.before.before.before.before.before.loop.invariant.0 in let factor = got c.before.before.before.before.before.before.read-product.ensures (not-false _ c.before.before.if1.false) in (omega (arith, got_few factor (so.few c.before.before.before.before.before.before.before.before.before.before.before.before.before.requires.1.1.0), factor.inside, c.before.before.before.before.before.before.before.before.before.before.before.before.before.well-formed.0.1), (omega (arith, so.odd-small, ap (λ (x : Left). x.odd) (c.before.left-of.ensures ∙ c.before.before.before.before.before.before.before.before.loop.invariant.1)), got_odd factor))
+read-sum-joined-sum-requires t c κs = let so = sum-onward c.before.before.before.before.before.before.before.before.before.before.before.before.before.requires.1.0 c.before.before.before.before.before.before.before.before.loop.invariant.0 in let factor = got c.before.before.before.before.before.before.read-product.ensures (not-false _ c.before.before.if1.false) in (omega (arith, got_few factor (so.few c.before.before.before.before.before.before.before.before.before.before.before.before.before.requires.1.1.0), factor.inside, c.before.before.before.before.before.before.before.before.before.before.before.before.before.well_formed.0.1), (omega (arith, so.odd-small, ap (λ (x : Left). x.odd) (c.before.left-of.ensures ∙ c.before.before.before.before.before.before.before.before.loop.invariant.1)), got_odd factor))
 
 read-sum-byte-at-requires : (t : ℕ) → read-sum-lts.Need-byte-at-requires (read-sum-claims t) (read-sum-at t) read-sum.Post read-sum-Inv-loop read-sum-μ-loop
 read-sum-byte-at-requires t c κs = search rules
@@ -534,7 +534,7 @@ read-sum-returns-2 : (t : ℕ) → read-sum-lts.Need-returns-2 (read-sum-claims 
 read-sum-returns-2 t c = same_read c.packed2.ensures (sum-ends (sum-joined c.before.before.before.before.before.before.before.before.before.before.before.before.before.before.before.loop.invariant.0 c.before.before.before.before.before.before.before.before.before.before.before.before.before.read-product.ensures c.before.before.before.before.before.before.before.before.left-of.result (c.before.before.before.before.before.before.before.before.left-of.ensures ∙ c.before.before.before.before.before.before.before.before.before.before.before.before.before.before.before.loop.invariant.1) (not-false _ c.before.before.before.before.before.before.before.before.before.if1.false) c.before.before.before.before.before.before.joined-sum.result _ c.before.before.before.before.before.before.joined-sum.ensures.0 c.before.before.before.before.before.before.joined-sum.ensures.1) (sym (ap (λ b. eqb b 43 || eqb b 45) c.before.before.before.byte_at.ensures) ∙ sym c.before.before.is-sign.ensures ∙ not-true _ c.before.if2.true))
 
 read-sum-beyond-requires : (t : ℕ) → read-sum-lts.Need-beyond-requires (read-sum-claims t) (read-sum-at t) read-sum.Post read-sum-Inv-loop read-sum-μ-loop
-read-sum-beyond-requires t c κs = let whole = sum-joined c.before.before.before.before.before.before.before.before.before.before.before.before.before.before.loop.invariant.0 c.before.before.before.before.before.before.before.before.before.before.before.before.read-product.ensures c.before.before.before.before.before.before.before.left-of.result (c.before.before.before.before.before.before.before.left-of.ensures ∙ c.before.before.before.before.before.before.before.before.before.before.before.before.before.before.loop.invariant.1) (not-false _ c.before.before.before.before.before.before.before.before.if1.false) c.before.before.before.before.before.joined-sum.result _ c.before.before.before.before.before.joined-sum.ensures.0 c.before.before.before.before.before.joined-sum.ensures.1 in omega (arith, whole.inside, c.before.before.before.before.before.before.before.before.before.before.before.before.before.before.before.before.before.before.before.well-formed.0.1)
+read-sum-beyond-requires t c κs = let whole = sum-joined c.before.before.before.before.before.before.before.before.before.before.before.before.before.before.loop.invariant.0 c.before.before.before.before.before.before.before.before.before.before.before.before.read-product.ensures c.before.before.before.before.before.before.before.left-of.result (c.before.before.before.before.before.before.before.left-of.ensures ∙ c.before.before.before.before.before.before.before.before.before.before.before.before.before.before.loop.invariant.1) (not-false _ c.before.before.before.before.before.before.before.before.if1.false) c.before.before.before.before.before.joined-sum.result _ c.before.before.before.before.before.joined-sum.ensures.0 c.before.before.before.before.before.joined-sum.ensures.1 in omega (arith, whole.inside, c.before.before.before.before.before.before.before.before.before.before.before.before.before.before.before.before.before.before.before.well_formed.0.1)
 
 read-sum-held-requires-2 : (t : ℕ) → read-sum-lts.Need-held-requires-2 (read-sum-claims t) (read-sum-at t) read-sum.Post read-sum-Inv-loop read-sum-μ-loop
 read-sum-held-requires-2 t c κs = let whole = sum-joined c.before.before.before.before.before.before.before.before.before.before.before.before.before.before.before.loop.invariant.0 c.before.before.before.before.before.before.before.before.before.before.before.before.before.read-product.ensures c.before.before.before.before.before.before.before.before.left-of.result (c.before.before.before.before.before.before.before.before.left-of.ensures ∙ c.before.before.before.before.before.before.before.before.before.before.before.before.before.before.before.loop.invariant.1) (not-false _ c.before.before.before.before.before.before.before.before.before.if1.false) c.before.before.before.before.before.before.joined-sum.result _ c.before.before.before.before.before.before.joined-sum.ensures.0 c.before.before.before.before.before.before.joined-sum.ensures.1 in (omega (arith, ap (λ (x : Left). x.first) (c.before.before.before.before.before.before.before.before.left-of.ensures ∙ c.before.before.before.before.before.before.before.before.before.before.before.before.before.before.before.loop.invariant.1), c.before.before.before.before.before.before.before.before.before.before.before.before.before.before.before.before.before.before.before.before.requires.1.0, c.before.before.before.before.before.before.before.before.before.before.before.before.before.before.before.before.before.before.before.before.requires.1.1.1.0), omega (arith, ap (λ (x : Found). x.odd) c.beyond.ensures, got_odd whole))

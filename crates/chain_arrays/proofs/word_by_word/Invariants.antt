@@ -1,0 +1,13 @@
+-- `word_by_word` works out each word of two arrays. Invariant: the first i words are stored.
+use Rattle.std.proofs.Common.{◌≡◌, ◌-◌, ◌≤◌, take, sym, ◌∙◌, arith, rules}
+use Rattle.chain.specs.Chain.{row}
+use Rattle.chain.proofs.Rows.{row_store, array_filled}
+use Rattle.chain_arrays.specs.Operations.{worked, word_by_word}
+use Rattle.chain_arrays.proofs.Paired.{entry_paired, length-paired}
+use Rattle.chain_arrays.proofs.word_by_word.Given as goal
+
+abbrev pub invariant-loop-i : goal.invariant-loop-i
+invariant-loop-i l = (l.i ≤ 17) × (l.r ≡ row 17 (take l.i (word_by_word l.operation l.f l.g)))
+
+abbrev pub decreases-loop-i : goal.decreases-loop-i
+decreases-loop-i l = 17 - l.i

@@ -1,0 +1,13 @@
+-- `alternated` gives every word the sign of its place. Invariant: the first i of them are stored.
+use Rattle.std.proofs.Common.{◌≡◌, ◌-◌, ◌≤◌, take, sym, ◌∙◌, arith, rules}
+use Rattle.chain.specs.Chain.{words, row}
+use Rattle.chain.proofs.Rows.{row_store, array_filled}
+use Rattle.chain_backward.specs.Alternating.{alternated}
+use Rattle.chain_backward.proofs.Products.{entry_alternated, length-alternated}
+use Rattle.chain_backward.proofs.alternated.Given as goal
+
+abbrev pub invariant-loop-i : goal.invariant-loop-i
+invariant-loop-i l = (l.i ≤ 17) × (l.r ≡ row 17 (take l.i (words 64 (alternated 64 l.f))))
+
+abbrev pub decreases-loop-i : goal.decreases-loop-i
+decreases-loop-i l = 17 - l.i

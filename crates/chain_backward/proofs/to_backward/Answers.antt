@@ -1,0 +1,10 @@
+-- `to_backward` converts with differences.
+use Rattle.std.proofs.Common.{ℕ, get_or, ◌∙◌, w64, Fits, rules}
+use Rattle.chain_backward.proofs.Steps.{to_backward_done}
+use Rattle.chain_backward.proofs.to_backward.Goals as goal
+
+pub returns : goal.returns
+returns c =
+    let args = c.args in
+    let fits : (i : ℕ) → Fits w64 (get_or args.f i 0) = λ i. search rules in
+    c.conversion.ensures ∙ to_backward_done args.f args.k (search rules) (λ i. (fits i).fits)

@@ -1,0 +1,77 @@
+-- `fold_tree` writes word 0 and zeros behind the rows.
+use mathlib.Core.Path.{ap, ◌∙◌, subst}
+use Prim.Native.Nat.{◌≤◌}
+use native.Mathlib.Omega.{arith}
+use lib.ListN.{length, length-set}
+use Rattle.plan.specs.Measures.{most_rows}
+use Rattle.formula.specs.Tree.{span_of}
+use Rattle.fold.specs.Folding.{fold}
+use Rattle.compile.proofs.Assembled.{assembled, whole_length}
+use borrow.Author.Rules.{rules}
+use Rattle.compile.proofs.machine.fold_tree.Goals as goal
+
+-- GONE overflow-mul-clear
+-- 
+--     let tree = c.before.before.before.before.before.before.requires.1 in
+--     omega (
+--       arith,
+--       (c.before.before.before.fold-nodes.ensures tree.0 tree.1 tree.2).few,
+--       c.before.before.before.fold-nodes.auto,
+--       c.before.before.before.before.before.before.requires.0,
+--       c.start.ensures,
+--     )
+
+-- GONE overflow-sub-clear
+-- 
+--     let tree = c.before.before.before.before.before.before.requires.1 in
+--     omega (
+--       arith,
+--       (c.before.before.before.fold-nodes.ensures tree.0 tree.1 tree.2).few,
+--       c.before.before.before.fold-nodes.auto,
+--       c.before.before.before.before.before.before.requires.0,
+--       c.start.ensures,
+--     )
+
+-- GONE slice-bounds-clear-start
+-- 
+--     let tree = c.before.before.before.before.before.before.requires.1 in
+--     omega (
+--       arith,
+--       (c.before.before.before.fold-nodes.ensures tree.0 tree.1 tree.2).few,
+--       c.before.before.before.fold-nodes.auto,
+--       c.before.before.before.before.before.before.requires.0,
+--       c.start.ensures,
+--     )
+
+-- GONE slice-bounds-clear-end
+-- 
+--     omega (
+--       arith,
+--       length-set c.before.before.before.fold-nodes.new.0 0 c.before.before.before.fold-nodes.result,
+--       c.before.before.before.fold-nodes.auto,
+--       c.before.before.before.before.before.before.requires.0,
+--     )
+
+pub start-behind-requires : goal.start-behind-requires
+start-behind-requires c =
+    let tree = c.requires.compilable in
+    (c.fold_nodes-rows.ensures tree.0 tree.1 tree.2).few
+
+pub shape_of-plan : goal.shape_of-plan
+shape_of-plan c =
+    let args = c.args in
+    let long = c.requires.plan_length_in_bounds in
+    let tree = c.requires.compilable in
+    let done = c.fold_nodes-rows in
+    let at = done.ensures tree.0 tree.1 tree.2 in
+    ap length (assembled args.start args.step args.plan.now done.new.0 tree.0 done.result long (omega (arith, done.auto)) at
+    c.start-behind.ensures c.clear.ensures)
+    ∙ whole_length (span_of tree.0) (fold 64 args.start args.step tree.0) args.plan.now (subst (λ n. n ≤ most_rows) at.rows at.few) long
+
+pub returns : goal.returns
+returns c =
+    let args = c.args in
+    let done = c.fold_nodes-rows in
+    λ t comp w. assembled args.start args.step args.plan.now done.new.0 t done.result
+    c.requires.plan_length_in_bounds (omega (arith, done.auto))
+    (done.ensures t comp w) c.start-behind.ensures c.clear.ensures

@@ -1,0 +1,11 @@
+-- `ask_all` is safe and ends. Invariant: there are at most as many rows as a plan has.
+use Prim.Native.Nat.{◌+◌, ◌-◌, ◌≤◌}
+use borrow.Author.Rules.{rules}
+use Rattle.plan.specs.Measures.{most_rows}
+use Rattle.edges_reasons.proofs.ask_all.Given as goal
+
+abbrev pub invariant-loop-row : goal.invariant-loop-row
+invariant-loop-row l = l.last ≤ most_rows
+
+abbrev pub decreases-loop-row : goal.decreases-loop-row
+decreases-loop-row l = (1 + l.last) - l.row

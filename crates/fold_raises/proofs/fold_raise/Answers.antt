@@ -1,0 +1,31 @@
+-- `fold_raise` folds a constant to a constant or a sum chain; anything else becomes a row.
+use mathlib.Core.Path.{◌∙◌}
+use native.Mathlib.Omega.{arith}
+use Rattle.chain_arrays.proofs.Paired.{raises_by_word}
+use Rattle.fold_operands.proofs.OperandLaws.{operands_some}
+use Rattle.fold_operands.proofs.Leaving.{room_of_both, either_way}
+use Rattle.fold_raises.proofs.RaiseOperands.{raise-folded, raise_as_row}
+use borrow.Author.Rules.{rules}
+use Rattle.fold_raises.proofs.fold_raise.Goals as goal
+
+-- GONE overflow-sub-base-root
+--  omega (arith, operands_some c.before.requires.1.1.3)
+
+-- GONE overflow-sub-exponent-root
+--  omega (arith, operands_some c.before.requires.1.1.3)
+
+pub returns-then-exponent-lt-PRODUCT_CHAIN : goal.returns-then-exponent-lt-PRODUCT_CHAIN
+returns-then-exponent-lt-PRODUCT_CHAIN c =
+    let args = c.args in
+    raise-folded args.plan.now args.left args.middle args.end c.kind-base.ensures
+    c.kind-exponent.ensures c.if-base-eq-CONSTANT.true c.if-exponent-lt-PRODUCT_CHAIN.true
+    c.first_element-c.ensures c.elements-f.ensures
+    (c.word_by_word.ensures ∙ raises_by_word c.elements-f.result (search rules) _)
+    c.put_product.ensures
+
+pub returns : goal.returns
+returns c =
+    raise_as_row c.args.plan.now c.args.left c.args.middle c.args.end
+    c.kind-base.ensures c.kind-exponent.ensures
+    (room_of_both c.requires.two.3 c.requires.plan_length_in_bounds c.requires.end_lt_most_rows)
+    (either_way c.if-base-eq-CONSTANT.branch (λ x. (x.0.taken, x.1.left)) (λ x. x.left)) c.append.ensures

@@ -1,0 +1,52 @@
+-- `fold_sum` adds or subtracts constants and sum chains, leaves A of A + 0, A - 0 and 0 + A and minus A of 0 - A, and otherwise appends the row.
+use native.Mathlib.Omega.{arith}
+use Rattle.fold_operands.proofs.OperandLaws.{operand_some}
+use Rattle.fold_operands.proofs.Leaving.{room_of_both}
+use Rattle.fold_sums.proofs.SumOperands.{leaves-chain, leaves-left, moved_down_lem, leaves-alone, leaves-row}
+use borrow.Author.Rules.{rules}
+use Rattle.fold_sums.proofs.fold_sum.Goals as goal
+
+-- GONE overflow-sub-left-root
+--  omega (arith, operand_some c.before.requires.1.1.1.3.first)
+
+-- GONE overflow-sub-right-root
+--  omega (arith, operand_some c.before.requires.1.1.1.3.second)
+
+pub returns-then-both_sums : goal.returns-then-both_sums
+returns-then-both_sums c =
+    λ s a b o.
+    leaves-chain c.requires.sum_or_difference s a b o c.both_sums.ensures c.if-both_sums.true
+    c.chain_of_both-both.ensures c.put_sum.ensures
+
+pub returns-then-is_constant : goal.returns-then-is_constant
+returns-then-is_constant c =
+    λ s a b o.
+    leaves-left c.requires.sum_or_difference s a b o c.both_sums.ensures c.if-both_sums.false
+    c.is_constant.ensures c.if-is_constant.true
+
+pub move_down-requires : goal.move_down-requires
+move_down-requires c = let o = c.requires.two.3 in record { plan_length_in_bounds = omega arith; le_first = omega (arith, operand_some o.first); first_le_end = omega (arith, operand_some o.second); end_le_most_rows = omega arith }
+
+pub fold_alone-requires : goal.fold_alone-requires
+fold_alone-requires c = let pre = c.requires in
+    let (s, a, b, o) = pre.two in
+    let moved =
+    moved_down_lem pre.sum_or_difference s a b o c.both_sums.ensures c.if-both_sums.false c.is_constant.ensures
+    c.if-is_constant.false (room_of_both o pre.plan_length_in_bounds pre.end_lt_most_rows) c.is_constant-2.ensures c.if-is_constant-2.true
+    c.move_down.ensures in record { plan_length_in_bounds = omega arith; end_lt_most_rows = omega arith; one = (s.right, b, moved) }
+
+pub returns-then-is_constant-2 : goal.returns-then-is_constant-2
+returns-then-is_constant-2 c =
+    let pre = c.requires in
+    λ s a b o.
+    leaves-alone pre.sum_or_difference s a b o c.both_sums.ensures c.if-both_sums.false c.is_constant.ensures
+    c.if-is_constant.false (room_of_both o pre.plan_length_in_bounds pre.end_lt_most_rows) c.is_constant-2.ensures c.if-is_constant-2.true
+    c.move_down.ensures c.fold_alone.ensures
+
+pub returns : goal.returns
+returns c =
+    let pre = c.requires in
+    λ s a b o.
+    leaves-row pre.sum_or_difference s a b o c.both_sums.ensures c.if-both_sums.false c.is_constant.ensures
+    c.if-is_constant.false (room_of_both o pre.plan_length_in_bounds pre.end_lt_most_rows) c.is_constant-2.ensures c.if-is_constant-2.false
+    c.append.ensures

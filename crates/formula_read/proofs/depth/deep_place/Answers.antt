@@ -1,0 +1,28 @@
+use Prim.Native.Nat.{◌-◌}
+use native.Mathlib.Omega.{arith}
+use lib.Dec.{eqb}
+use lib.ListN.{length, get_or}
+use borrow.Author.Rules.{rules}
+use Rattle.formula_scan.proofs.BracketCount.{DeepSoFar, deep_starts, deep-found, deep_goes_on, deep_nowhere, counted-most}
+use Rattle.formula_read.proofs.depth.deep_place.Goals as goal
+
+-- GONE overflow-add-if1
+--  omega (arith, c.counted2.ensures, counted-most (eqb (get_or c.before.before.before.before.before.before.args.text.now c.before.before.before.before.loop.i 0) 41) c.before.before.before.before.loop.closed, c.before.before.before.before.loop.invariant.fewer, c.before.before.before.before.before.before.well_formed.0.1)
+
+pub loop-i-init : goal.loop-i-init
+loop-i-init c = deep_starts c.args.text.now
+
+pub counted-opened-requires : goal.counted-opened-requires
+counted-opened-requires c = omega (arith, c.loop-i.invariant.few, c.well_formed.0.1)
+
+pub counted-closed-requires : goal.counted-closed-requires
+counted-closed-requires c = omega (arith, c.loop-i.invariant.fewer, c.well_formed.0.1)
+
+pub returns-then-closed-opened : goal.returns-then-closed-opened
+returns-then-closed-opened c = deep-found c.args.text.now c.loop-i.i c.loop-i.opened c.loop-i.closed _ _ c.loop-i.invariant (omega arith) c.counted-opened.ensures c.counted-closed.ensures (omega arith)
+
+pub loop-i-preserved : goal.loop-i-preserved
+loop-i-preserved c = deep_goes_on c.args.text.now c.loop-i.i c.loop-i.opened c.loop-i.closed _ _ c.loop-i.invariant (omega arith) c.counted-opened.ensures c.counted-closed.ensures (omega arith)
+
+pub returns : goal.returns
+returns c = deep_nowhere c.args.text.now c.loop-i.i c.loop-i.opened c.loop-i.closed c.loop-i.invariant (omega arith)

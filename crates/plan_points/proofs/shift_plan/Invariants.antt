@@ -1,0 +1,13 @@
+-- `shift_plan` shifts row after row. Invariant: the rows passed are shifted, the others wait.
+use Rattle.std.proofs.Common.{◌≡◌, ◌+◌, ◌-◌, ◌≤◌, true, length, sym, refl, ap, ◌∙◌, subst, arith, rules}
+use Rattle.plan.specs.Measures.{most_rows}
+use Rattle.plan.specs.Plan.{row_count}
+use Rattle.plan.proofs.SoundLaws.{sound-count, row_facts}
+use Rattle.plan.proofs.Keeping.{shifted_to, none-shifted, all-shifted, length_to, waiting, step-put}
+use Rattle.plan_points.proofs.shift_plan.Given as goal
+
+abbrev pub invariant-loop-r : goal.invariant-loop-r
+invariant-loop-r l = (l.r ≤ l.count) × (length l.plan ≡ length l.initial.plan) × (l.plan ≡ shifted_to 64 l.r l.initial.plan) × (l.count ≤ most_rows)
+
+abbrev pub decreases-loop-r : goal.decreases-loop-r
+decreases-loop-r l = l.count - l.r

@@ -1,0 +1,9 @@
+-- `facts` reads the table of row kinds.
+use mathlib.Core.Path.{refl}
+use borrow.Author.Rules.{rules}
+use Rattle.plan.specs.Row.{kind_facts}
+use Rattle.plan_rows.proofs.kinds.facts.Goals as goal
+
+pub returns : goal.returns
+unfolding kind_facts
+returns c = refl

@@ -1,0 +1,8 @@
+-- `minus_reason` judges whether 01 folds the row.
+use borrow.Author.Rules.{rules}
+use Rattle.reason.proofs.Numbers.{minus_number}
+use Rattle.reason_numbers.proofs.minus_reason.Goals as goal
+
+pub returns : goal.returns
+unfolding minus_number
+returns c = c.judged.ensures

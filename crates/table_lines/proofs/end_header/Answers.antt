@@ -1,0 +1,16 @@
+-- `end_header` takes the header line, or ends the run.
+use mathlib.Core.Path.{sym, ◌∙◌}
+use borrow.Author.Rules.{rules}
+use Rattle.table_progress.proofs.LinesEnded.{header_taken, header_refused}
+use Rattle.table_lines.proofs.end_header.Goals as goal
+
+pub returns-then-is_header : goal.returns-then-is_header
+returns-then-is_header c =
+    let args = c.args in
+    header_taken args.line.now args.out.now (sym c.is_header.ensures ∙ c.if-is_header.true)
+
+pub returns : goal.returns
+returns c =
+    let args = c.args in
+    header_refused args.line.now args.out.now (sym c.is_header.ensures ∙ c.if-is_header.false)
+    c.ended.ensures c.write_no_line-wrote.ensures

@@ -1,0 +1,15 @@
+-- `hold` copies the bytes behind those that are held, all of them or as many as there is room for.
+use native.Mathlib.Omega.{arith}
+use borrow.Author.Rules.{rules}
+use Rattle.table_progress.proofs.Holding.{held_all, held_some}
+use Rattle.table_steps.proofs.hold.Goals as goal
+
+pub returns-then-more-room : goal.returns-then-more-room
+returns-then-more-room c =
+    let args = c.args in
+    held_all args.held args.line.now args.more.now (omega arith) (omega arith) (omega arith) c.UNKNOWN.copy.ensures.1
+
+pub returns : goal.returns
+returns c =
+    let args = c.args in
+    held_some args.held args.line.now args.more.now (omega arith) (omega arith) (omega arith) c.UNKNOWN.copy2.ensures.1

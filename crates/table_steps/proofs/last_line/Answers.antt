@@ -1,0 +1,21 @@
+-- `last_line` ends the line under way, if bytes are held of it, and leaves room for what the end of the input prints.
+use Prim.Native.Nat.{◌-◌}
+use native.Mathlib.Omega.{arith}
+use lib.ListN.{length}
+use borrow.Author.Rules.{rules}
+use Rattle.table_progress.specs.Runs.{lent}
+use Rattle.table_progress.proofs.StepsTaken.{last_none, last_fits, last_some}
+use Rattle.table_steps.proofs.last_line.Goals as goal
+
+pub returns-then-held-eq0 : goal.returns-then-held-eq0
+returns-then-held-eq0 c = let args = c.args in
+    let b = lent args.line.now args.defaults.now args.plan.now args.table.now args.out.now in record { out_after = last_none args.tool args.progress b c.if-held-eq0.true; wrote_in_bounds = omega arith }
+
+pub returns : goal.returns
+returns c = let done = c.end_line in
+    let args = c.args in
+    let asked = c.requires in
+    let b = lent args.line.now args.defaults.now args.plan.now args.table.now args.out.now in
+    let room = length args.out.now - 67 in
+    let same = done.auto.1.1.1.1.1.1.0 in
+    let fits = last_fits args.tool args.progress b c.if-held-eq0.false asked.held_in_bounds room (omega arith) done.ensures (omega (arith, same)) in record { out_after = last_some args.tool args.progress b c.if-held-eq0.false asked.held_in_bounds room (omega arith) done.ensures (omega (arith, same)); wrote_in_bounds = omega (arith, fits, asked.most_printed_in_bounds) }

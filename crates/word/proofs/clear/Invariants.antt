@@ -1,0 +1,11 @@
+-- `clear` writes zeros. Invariant: the first i are 0, the others as they were.
+use Rattle.std.proofs.Common.{◌≡◌, ◌-◌, ◌≤◌, ◌++◌, length, drop, set, replicate, refl, ap, ◌∙◌, append-nil, arith, length-set, drop_of_length-le, rules}
+use borrow.Author.Fill.{fill_none, fill_more}
+use Rattle.word.proofs.clear.Given as goal
+
+abbrev pub invariant-loop-i : goal.invariant-loop-i
+invariant-loop-i l =
+    (l.i ≤ length l.initial.words) × (l.words ≡ replicate l.i 0 ++ drop l.i l.initial.words) × (length l.words ≡ length l.initial.words)
+
+abbrev pub decreases-loop-i : goal.decreases-loop-i
+decreases-loop-i l = length l.initial.words - l.i

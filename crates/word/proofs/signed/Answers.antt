@@ -1,0 +1,13 @@
+-- `signed` meets its contract: each half of the words is read as `signed` says, and the difference taken in the upper half fits.
+use Rattle.std.proofs.Common.{rules}
+use Rattle.word.proofs.SignedWords.{read_low, high_fits, read_high}
+use Rattle.word.proofs.signed.Goals as goal
+
+-- GONE overflow-sub-result-2
+--  high_fits c.before.args.word c.if1.false c.before.ranges.word.fits
+
+pub returns-then-word-lt-NEGATIVE : goal.returns-then-word-lt-NEGATIVE
+returns-then-word-lt-NEGATIVE c = read_low c.args.word c.if-word-lt-NEGATIVE.true
+
+pub returns : goal.returns
+returns c = read_high c.args.word c.if-word-lt-NEGATIVE.false c.ranges.word.fits

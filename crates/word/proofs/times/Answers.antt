@@ -1,0 +1,16 @@
+-- `times` is the product modulo 2^64: the law of half words at 2^32.
+use Rattle.std.proofs.Common.{◌∙◌, arith, rules}
+use Rattle.word.proofs.HalfWords.{halves_fit, from_halves}
+use Rattle.word.proofs.times.Goals as goal
+
+-- GONE overflow-mul-cross
+--  record { fits = halves_fit 4294967296 (omega arith) (omega arith) (omega arith) }
+
+-- GONE overflow-mul-cross-2
+--  record { fits = halves_fit 4294967296 (omega arith) (omega arith) (omega arith) }
+
+-- GONE overflow-mul-wrapping-add-u64-2
+--  record { fits = halves_fit 4294967296 (omega arith) (omega arith) (omega arith) }
+
+pub returns : goal.returns
+returns c = c.wrapping_add_u64.ensures.value ∙ from_halves 4294967296 c.args.a c.args.b
