@@ -1,4 +1,4 @@
-use Rattle.std.proofs.Common.{◌≡◌, ℕ, ◌+◌, ◌-◌, ◌<◌, ◌≤◌, take, refl, ap, ◌∙◌, arith, rules}
+use Rattle.std.proofs.Common.{◌≡◌, ℕ, ◌+◌, ◌<◌, ◌≤◌, take, refl, ap, ◌∙◌, arith}
 use Rattle.chain.specs.Chain.{row}
 use Rattle.chain.proofs.Rows.{row_store}
 use Rattle.chain_arrays.proofs.kept.Goals as goal

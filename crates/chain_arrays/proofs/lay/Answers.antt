@@ -1,4 +1,4 @@
-use Rattle.std.proofs.Common.{◌≡◌, ℕ, ◌+◌, ◌-◌, ◌<◌, ◌≤◌, List, ◌++◌, length, get_or, set, sym, ap, ◌∙◌, ap₂, append-nil, zero-add, add-one, arith, length-set, drop_of_length-le, take_all, rules}
+use Rattle.std.proofs.Common.{◌≡◌, ℕ, ◌+◌, ◌<◌, List, ◌++◌, length, get_or, set, sym, ap, ◌∙◌, ap₂, append-nil, zero-add, add-one, arith, length-set, drop_of_length-le, take_all, rules}
 use lib.Seq.{paste, paste-zero, paste-suc}
 use Rattle.chain_arrays.proofs.lay.Goals as goal
 

@@ -1,7 +1,6 @@
-use Rattle.std.proofs.Common.{◌≡◌, ◌-◌, ◌≤◌, take, sym, ◌∙◌, arith, rules}
-use Rattle.chain.specs.Chain.{row}
+use Rattle.std.proofs.Common.{sym, ◌∙◌, arith, rules}
 use Rattle.chain.proofs.Rows.{row_store, array_filled}
-use Rattle.chain_arrays.specs.Operations.{worked, word_by_word}
+use Rattle.chain_arrays.specs.Operations.{worked}
 use Rattle.chain_arrays.proofs.Paired.{entry_paired, length-paired}
 use Rattle.chain_arrays.proofs.word_by_word.Goals as goal
 
