@@ -1,7 +1,6 @@
 -- `value` answers the first word.
 use native.Mathlib.Omega.{arith}
 use borrow.Author.Tests.{lt-ltb, le-ltb}
-use borrow.Author.Rules.{rules}
 use Rattle.chain.proofs.Calls.{kept-first}
 use Rattle.chain_calls.proofs.value.Goals as goal
 
