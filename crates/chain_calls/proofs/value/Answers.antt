@@ -9,4 +9,4 @@ pub returns-then-k-gt-LONGEST : goal.returns-then-k-gt-LONGEST
 returns-then-k-gt-LONGEST c = rw (lt-ltb 16 c.args.k (omega arith))
 
 pub returns : goal.returns
-returns c = rw (le-ltb 16 c.args.k (omega arith), kept-first c.args.t1 c.args.k)
+returns c = rw (le-ltb 16 c.args.k (omega arith), kept-first c.args.f c.args.k)
