@@ -1,11 +1,11 @@
 -- Bytes copied to the beginning of a buffer, and the bytes held of the line under way.
 use mathlib.Core.Path.{◌≡◌, refl, sym, ap, ◌∙◌}
-use mathlib.Core.List.{List, ◌++◌, append_assoc, append-nil}
+use mathlib.Core.List.{List, ◌++◌, append_assoc}
 use Prim.Native.Nat.{ℕ, ◌+◌, ◌-◌, ◌≤◌, ◌<◌}
 use native.Mathlib.Nat.{sub-zero}
 use native.Mathlib.Omega.{arith}
 use lib.ListN.{length, take, drop, length-append, length-take, length-drop, take-append-drop}
-use lib.Seq.{length-take-le, take_all, take-length, drop-length, drop-append-le, take-append-add}
+use lib.Seq.{length-take-le, take_all, drop-append-le, take-append-add}
 use Rattle.plan.proofs.RowLaws.{part, part_put, part-put, tail_part}
 use Rattle.table_fields.specs.Writing.{Wrote}
 use Rattle.table_fields.proofs.Joining.{wrote-from-start}
