@@ -5,11 +5,6 @@ use borrow.Author.Tests.{lt-ltb, le-ltb, eq-eqb, ne_eqb}
 use Rattle.reason.proofs.Numbers.{power_folds}
 use Rattle.reason_numbers.proofs.power_folds.Goals as goal
 
--- GONE overflow-mul-result
--- 
---     let start = c.before.before.before.before.before in
---     omega (arith, mul-le-mul_right start.args.n start.requires.0)
-
 pub returns-then-operand-gt-PRODUCT_CHAIN : goal.returns-then-operand-gt-PRODUCT_CHAIN
 unfolding power_folds
 returns-then-operand-gt-PRODUCT_CHAIN c = rw (lt-ltb 2 c.args.operand.kind c.if-operand-gt-PRODUCT_CHAIN.true)
