@@ -36,4 +36,4 @@ pub returns : goal.returns
 returns c =
     λ s a o.
     leaves-minus s a o (omega (arith, operand_some o))
-    (omega (arith, c.if-root_kind-lt-PRODUCT_CHAIN.false, c.if-root_kind-eq-PRODUCT_CHAIN.false, c.kind-root_kind.ensures)) c.append.ensures
+    (omega (arith, c.kind-root_kind.ensures)) c.append.ensures
