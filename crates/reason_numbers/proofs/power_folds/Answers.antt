@@ -1,5 +1,4 @@
 -- `power_folds`: no operator, and no sum chain that would be too long.
-use native.Mathlib.Nat.{mul-le-mul_right}
 use native.Mathlib.Omega.{arith}
 use borrow.Author.Tests.{lt-ltb, le-ltb, eq-eqb, ne_eqb}
 use Rattle.reason.proofs.Numbers.{power_folds}
