@@ -7,7 +7,7 @@ use borrow.Author.Rules.{rules}
 use Rattle.table_runs.proofs.take.Goals as goal
 
 -- GONE overflow-add-at
--- 
+--
 --     let turned = c.before.before.before.before.before.before.before.before.before.before.before.before.before in
 --     omega (
 --       arith,

@@ -6,7 +6,7 @@ use borrow.Author.Rules.{rules}
 use Rattle.table_runs.proofs.turn.Goals as goal
 
 -- GONE overflow-add-filled
--- 
+--
 --     let stepped = c.before.before.before.before.before.before.before.before.before.before.before.before in
 --     let room = stepped.before.before.before.before.before.before.before in
 --     let start = room.before.before.before.before.before.before.before.before.before.before in

@@ -4,7 +4,7 @@ use Rattle.table.proofs.PartsFound.{found_inside, found_part}
 use Rattle.edges_text.proofs.text.before.Goals as goal
 
 -- GONE slice-bounds-result-end
--- 
+--
 --     let args = c.before.before.args in
 --     omega (arith, c.find.ensures, found_inside args.mark args.text.now 0 (omega arith))
 
