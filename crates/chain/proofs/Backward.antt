@@ -9,7 +9,7 @@ use native.Mathlib.Omega.{arith}
 use lib.Dec.{eqb}
 use borrow.Author.Tests.{eqb-true}
 use Rattle.word.specs.Word as Word
-use Rattle.word.proofs.Modulo.{outward, add_same, mul_same}
+use Rattle.word.proofs.Modulo.{add_same, mul_same}
 use Rattle.word.proofs.Ring.{difference-sum}
 use Rattle.chain.specs.Chain.{value, rest, meeting, shift_from_top, shifted, value_at, words, with_last, without_trailing, trimmed}
 use Rattle.chain.specs.SumChain.{sum_shift, sum, times, product_by}

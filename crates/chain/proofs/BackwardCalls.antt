@@ -4,27 +4,26 @@ use mathlib.Core.Path.{◌≡◌, refl, sym, ap, ap₂, subst, ◌∙◌}
 use mathlib.Core.Bool.{cond}
 use mathlib.Core.List.{List, [], ◌∷◌}
 use Prim.Native.Nat.{ℕ, zero, suc, ◌+◌, ◌-◌, ◌%◌, ◌^◌, ◌<◌, ◌≤◌}
-use native.Mathlib.Nat.{zero-mod, mod-mod, add-zero, add-mod-mod, le_of_suc-le-suc, not-suc-le-zero}
+use native.Mathlib.Nat.{zero-mod, mod-mod, add-mod-mod, le_of_suc-le-suc, not-suc-le-zero}
 use native.Mathlib.Omega.{arith}
-use lib.ListN.{length, get_or, take, length-take, length-map}
+use lib.ListN.{length, get_or, take, length-map}
 use lib.Seq.{take-length}
 use lib.Pow.{pow_pos}
 use borrow.Author.Tests.{le-ltb}
 use Rattle.word.specs.Word as Word
-use Rattle.word.proofs.Modulo.{outward}
 use Rattle.word.proofs.Ring as Ring
-use Rattle.chain.specs.Chain.{value, rest, shift, meeting, shift_from_top, words, with_last, without_trailing, trimmed, row}
+use Rattle.chain.specs.Chain.{rest, shift, meeting, shift_from_top, words, without_trailing, trimmed, row}
 use Rattle.chain.specs.BackwardChain.{converted_in, converted, to_backward, to_forward}
 use Rattle.chain.specs.BackwardChain as BackwardChain
 use Rattle.chain.specs.SumChain as SumChain
 use Rattle.chain.specs.Answer.{answered, refused, chain, given, trim_outcome, shift_outcome}
 use Rattle.chain.specs.BackwardAnswer.{changed, inverse_shift_outcome, backward_shift_outcome, backward_inverse_shift_outcome, to_backward_outcome, to_forward_outcome}
-use Rattle.chain.proofs.Trimming.{row-trimmed, trimmed-row, length-row, length-trimmed, length-trimmed_some, take-trimmed, trimmed_twice, same_with_last, plus-zero, from_top_length, trimmed-length, bottom_keeps_length, top_keeps_length}
+use Rattle.chain.proofs.Trimming.{row-trimmed, trimmed-row, length-trimmed_some, take-trimmed, trimmed_twice, same_with_last, plus-zero, from_top_length, trimmed-length, bottom_keeps_length, top_keeps_length}
 use Rattle.chain.proofs.Rows.{entry_words, words-whole}
 use Rattle.chain.proofs.Shifting.{length_shift, length-from_top, unshift_shift}
 use Rattle.chain.proofs.Backward.{forward_inverse_words, backward_inverse_words, shift_unshift, backward_unshift_shift, backward_shift_unshift}
-use Rattle.chain.proofs.Conversions.{convert-next, convert-none, length-converted, to_backward_words, to_forward_words, forward_again, backward_again}
-use Rattle.chain.proofs.Calls.{length-kept, length-given}
+use Rattle.chain.proofs.Conversions.{convert-next, convert-none, length-converted, to_backward_words, forward_again, backward_again}
+use Rattle.chain.proofs.Calls.{length-given}
 
 -- ---- padding
 module _ (w : ℕ) (◌⊙◌ : ℕ → ℕ → ℕ) (right_zero : (a : ℕ) → ◌⊙◌ (a % 2 ^ w) 0 ≡ a % 2 ^ w) where

@@ -1,9 +1,8 @@
 -- Conversions between forward and backward sum chains: there and back is the chain again, either way round, the trimmed length stays, and both chains have the
 -- same word at every index, ahead of the present one and before it. One set of laws serves both ways: ⊙ and ⊘ are sum and difference of words, or the reverse.
-use mathlib.Core.Path.{◌≡◌, refl, sym, ap, ap₂, ◌∙◌}
+use mathlib.Core.Path.{◌≡◌, refl, sym, ap, ◌∙◌}
 use mathlib.Core.List.{List, [], ◌∷◌}
-use Prim.Native.Nat.{ℕ, zero, suc, ◌+◌, ◌%◌, ◌^◌, ◌≤◌}
-use native.Mathlib.Nat.{mod-mod, le_of_suc-le-suc, not-suc-le-zero}
+use Prim.Native.Nat.{ℕ, zero, suc, ◌+◌, ◌%◌, ◌^◌}
 use native.Mathlib.Omega.{arith}
 use lib.ListN.{length}
 use Rattle.word.specs.Word as Word
@@ -15,7 +14,7 @@ use Rattle.chain.specs.SumChain as SumChain
 use Rattle.chain.specs.BackwardChain.{after, value_ahead, value_before, converted_in, converted, to_backward, to_forward}
 use Rattle.chain.specs.BackwardChain as BackwardChain
 use Rattle.chain.proofs.SumLaws.{value-words}
-use Rattle.chain.proofs.Shifting.{length_shift, length-from_top, top_undoes_bottom, bottom_undoes_top, sum_undone, words-shift, words-from_top, difference_of_words}
+use Rattle.chain.proofs.Shifting.{length-from_top, top_undoes_bottom, bottom_undoes_top, sum_undone, words-from_top, difference_of_words}
 use Rattle.chain.proofs.Backward.{after_along, words_twice, ahead-words, forward_words, forward_inverse_words, backward_words, backward_inverse_words, value_of_words, ahead_as}
 
 -- The paper's equation: the first element stays, and the rest is converted after one step.

@@ -1,5 +1,6 @@
 // What the calls on chains answer. What a chain is and means is in specs/, its laws in proofs/.
 // The work on arrays of words is in `chain_arrays` and `chain_values`, the calls in `chain_calls` and `chain_coefficients`.
+#![tactic(auto)]
 
 // A refusal's number and place, 0 and 0 if accepted, and the trimmed chain: its length and its elements, 0 past them.
 #[derive(Clone, Copy)]

@@ -1,5 +1,7 @@
 // Chains as arrays of 17 words, and as lent slices that change in place: 0 past the elements, trimmed, and two of them word by word.
 // Lengths are checked by the callers in `chain_calls` and `chain_coefficients`; products and powers are in `chain_values`.
+#![tactic(auto)]
+
 ghost use Rattle.std.specs.Prelude.{◌≡◌, ◌+◌, ◌-◌, ◌≤◌, [], length, take};
 ghost use Rattle.word.specs.Signed.{signed};
 ghost use Rattle.chain.specs.Chain.{shift_from_top, trimmed, row};

@@ -1,5 +1,7 @@
 // Sum chains for callers: trim, sum, difference, product, shift and value, each with its refusals.
 // A chain is an array of 17 words by value with its length. The work on arrays is in `chain_arrays` and `chain_values`; formulas and plans live above.
+#![tactic(auto)]
+
 ghost use Rattle.std.specs.Prelude.{◌≡◌, ◌+◌, take};
 ghost use Rattle.chain.specs.Chain.{trimmed, row};
 ghost use Rattle.chain_arrays.specs.Operations.{word_by_word};

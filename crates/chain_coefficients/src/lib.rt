@@ -1,5 +1,7 @@
 // Coefficient lists in the index become sum chains, by one table of m! times Stirling numbers of the second kind.
 // The arithmetic of chains themselves is in `chain_calls`.
+#![tactic(auto)]
+
 ghost use Rattle.std.specs.Prelude.{◌≡◌, ◌%◌, ◌^◌, ◌<◌, length};
 ghost use Rattle.chain.specs.Chain.{row, words};
 ghost use Rattle.chain.specs.Coefficients.{onto, element_from, from_coefficients};

@@ -1,5 +1,7 @@
 // Sum chains by their values: products and powers of values, and the chain through them. Flat loops over 17 words.
 // Whether the lengths allow a product is checked by the callers.
+#![tactic(auto)]
+
 ghost use Rattle.std.specs.Prelude.{◌≡◌, map, length};
 ghost use Rattle.word.specs.Word as Word;
 ghost use Rattle.chain.specs.Chain.{row, words};

@@ -1,5 +1,7 @@
 // Compiling: a formula's text on a grid to the plan of its folded tree, or the refusal's number and place.
 // The folding of the nodes one after the other is in `machine`, that of one operator in the crates `fold_sums`, `fold_minus`, `fold_products`, `fold_powers` and `fold_raises`.
+#![tactic(auto)]
+
 mod machine;
 
 ghost use Rattle.fold.specs.Compiling.{Compiling};

@@ -425,7 +425,7 @@ module _ {p : List ℕ} {r : ℕ} where
   pub reason_number : {a : ReasonAnswer} → Explaining 64 p r a → a.number ≡ refusal p
   reason_number (Explaining.refused other) = refl
   reason_number (not-counted good past) = sym good
-  reason_number (no_operator good within few) = sym good
+  reason_number (no_operator good within low) = sym good
   reason_number (operator good within least reason) = sym good
 
   pub reason_refused : {a : ReasonAnswer} {n : ℕ} → Explaining 64 p r a → refusal p ≡ n → (n ≡ 0 → ⊥) → a ≡ refusing n

@@ -9,7 +9,6 @@ use Rattle.word.specs.Word as Word
 use Rattle.chain.specs.Chain.{value, rest, words, trimmed}
 use Rattle.chain.specs.SumChain as SumChain
 use Rattle.chain.specs.ProductChain as ProductChain
-use Rattle.formula.specs.Tree as Tree
 use Rattle.formula.specs.Tree.{Span, span, Tree}
 use Rattle.fold.specs.Folded.{Spans, Folded, constant, sum_chain, product_chain, sum_row, difference_row, product_row, minus_row, power_row, raise_row}
 use Rattle.fold.specs.Folded.{is_constant, is_sum_chain, is_product_chain, elements, of_sum, of_product, trimmed_sum, trimmed_product}

@@ -10,7 +10,6 @@ use lib.Seq.{slice, take_at, drop_at, take-add, take-take, get_or-drop}
 use Rattle.word.specs.Word as Word
 use Rattle.formula.specs.Bytes.{open_bracket, close_bracket, star, plus_sign, minus_sign, caret}
 use Rattle.formula.specs.Marks.{Mark, mark, marked}
-use Rattle.formula.specs.Tree as Tree
 use Rattle.formula.specs.Tree.{Span, span, first, end, Tree, span_of, nodes, holds_x}
 use Rattle.formula.specs.Value.{value_for}
 use Rattle.formula.specs.Grammar.{Number, covered, Sort, a_sum, a_product, a_factor, a_power, an_atom, Formula}

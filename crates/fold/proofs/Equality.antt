@@ -1,15 +1,14 @@
 -- Two folded trees that are constants or sum chains are equal exactly when their values agree at indices 0 to 16; and so the folded trees
 -- of two formulas, each on its own grid, exactly when the direct values agree there.
 use mathlib.Core.Path.{◌≡◌, refl, sym, ap, subst, ◌∙◌}
-use mathlib.Core.Bool.{Bool, true, false, cond, false≢true}
+use mathlib.Core.Bool.{true, false, false≢true}
 use mathlib.Core.Logic.{◌↔◌}
 use mathlib.Core.List.{List, [], ◌∷◌}
 use Prim.Native.Nat.{ℕ, ◌≤◌}
 use native.Mathlib.Nat.{mod-eq_of_lt}
 use native.Mathlib.Omega.{arith}
-use lib.Dec.{eqb}
 use lib.ListN.{length}
-use Rattle.chain.specs.Chain.{value, rest, words, with_last, without_trailing, trimmed}
+use Rattle.chain.specs.Chain.{value, rest, words, without_trailing, trimmed}
 use Rattle.chain.specs.ProductChain as ProductChain
 use Rattle.chain.proofs.Trimming.{trimmed_twice}
 use Rattle.chain.proofs.Rows.{words-whole}

@@ -4,7 +4,6 @@ use mathlib.Core.List.{List, [], ◌∷◌}
 use Prim.Native.Nat.{ℕ, ◌≤◌, ◌<◌}
 use native.Mathlib.Nat.{le_refl}
 use native.Mathlib.Omega.{arith}
-use Rattle.formula.specs.Tree as Tree
 use Rattle.formula.specs.Tree.{Span, first, end, Tree, span_of}
 use Rattle.formula.specs.Refusals.{Part, itself, sum_left, sum-right, difference-left, difference-right, product-left, product-right}
 use Rattle.formula.specs.Refusals.{under-minus, under-power, in_base, in_exponent}

@@ -8,7 +8,6 @@ use lib.ListN.{length, get_or, take}
 use Rattle.word.specs.Word as Word
 use Rattle.chain.specs.Chain.{rest, words, trimmed}
 use Rattle.chain.specs.ProductChain as ProductChain
-use Rattle.formula.specs.Tree as Tree
 use Rattle.formula.specs.Tree.{Span, first, end, Tree, span_of}
 use Rattle.formula.specs.Refusals.{Part, itself, sum_left, sum-right, difference-left, difference-right, product-left, product-right}
 use Rattle.formula.specs.Refusals.{under-minus, under-power, in_base, in_exponent}

@@ -9,7 +9,6 @@ use Rattle.word.specs.Word as Word
 use Rattle.chain.specs.Chain.{rest, words}
 use Rattle.chain.specs.SumChain as SumChain
 use Rattle.chain.specs.ProductChain as ProductChain
-use Rattle.formula.specs.Tree as Tree
 use Rattle.formula.specs.Tree.{Span, Tree}
 use Rattle.fold.specs.Folded.{Spans, Folded, constant, sum_row, difference_row, product_row, minus_row, power_row, raise_row}
 use Rattle.fold.specs.Folded.{is_constant, is_sum_chain, is_product_chain, elements, trimmed_sum, trimmed_product}

@@ -1,5 +1,7 @@
 // What is read of the rows of two factors: which rule they fold by, and a factor filled with ones.
 // The products themselves are in `fold_products`.
+#![tactic(auto)]
+
 ghost use Rattle.std.specs.Prelude.{◌≡◌, ◌&&◌, ◌||◌, ◌+◌, ◌≤◌, ◌<◌, leb, length};
 ghost use Rattle.plan.specs.Measures.{plan_length, most_rows};
 ghost use Rattle.plan.specs.Row.{word_a};

@@ -1,5 +1,7 @@
 // Minus of an operand that stands at the top of a lent plan.
 // Sums and differences are in `fold_sums`; which operator a node is, is decided in `compile`.
+#![tactic(auto)]
+
 ghost use Rattle.std.specs.Prelude.{◌<◌, ◌≤◌, length};
 ghost use Rattle.plan.specs.Measures.{plan_length, most_rows};
 ghost use Rattle.fold.specs.Folding.{fold_minus};

@@ -1,5 +1,7 @@
 // Words of the rows of operands that stand in a lent plan: read for the tests of the folding rules, written for what the rules leave.
 // Which rule applies, and what it leaves, is decided in the crates `fold_sums`, `fold_minus`, `fold_products`, `fold_powers` and `fold_raises`.
+#![tactic(auto)]
+
 ghost use Rattle.std.specs.Prelude.{◌≡◌, cond, [], ◌∷◌, ◌++◌, ◌≤◌, ◌<◌, eqb, length};
 ghost use Rattle.plan.specs.Measures.{plan_length, most_rows};
 ghost use Rattle.plan.specs.Row.{kind, word_a, first_element};

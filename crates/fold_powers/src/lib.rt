@@ -1,5 +1,7 @@
 // Literal powers of operands that stand at the top of a lent plan.
 // Which node is one of them is decided in `compile`; raises are in `fold_raises`, sums and products in `fold_sums` and `fold_products`.
+#![tactic(auto)]
+
 ghost use Rattle.std.specs.Prelude.{◌≡◌, ◌+◌, ◌-◌, ◌*◌, ◌≤◌, ◌<◌, length, take};
 ghost use Rattle.plan.specs.Measures.{plan_length, most_rows};
 ghost use Rattle.plan.specs.Row.{kind};

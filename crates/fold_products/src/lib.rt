@@ -1,5 +1,7 @@
 // Products of operands that stand at the top of a lent plan.
 // What is read of two factors is in `fold_factors`. Which node is a product is decided in `compile`; sums and powers are in `fold_sums` and `fold_powers`.
+#![tactic(auto)]
+
 ghost use Rattle.std.specs.Prelude.{◌≡◌, ◌+◌, ◌≤◌, ◌<◌, length};
 ghost use Rattle.plan.specs.Measures.{plan_length, most_rows};
 ghost use Rattle.chain.specs.Chain.{words};

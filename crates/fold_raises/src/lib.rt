@@ -1,5 +1,7 @@
 // Raises of operands that stand at the top of a lent plan.
 // Which node is one of them is decided in `compile`; literal powers are in `fold_powers`.
+#![tactic(auto)]
+
 ghost use Rattle.std.specs.Prelude.{◌≤◌, ◌<◌, length};
 ghost use Rattle.plan.specs.Measures.{plan_length, most_rows};
 ghost use Rattle.fold.specs.Folding.{fold_raise};

@@ -7,10 +7,10 @@ use Prim.Native.Nat.{ℕ, zero, suc, ◌+◌, ◌-◌, ◌*◌, ◌≤◌, ◌<�
 use native.Mathlib.Nat.{suc-add}
 use native.Mathlib.Numerals.{add-one}
 use native.Mathlib.Omega.{arith}
-use lib.Dec.{eqb, ltb}
+use lib.Dec.{eqb}
 use lib.ListN.{length, get_or, take, drop, set, length-append, length-drop, take-append-drop, length-map}
 use lib.Seq.{take_at, drop_at, get_or_at, take-take, take-add, take-suc, take-length, drop-drop, length-take-le, sets-eq}
-use lib.Seq.{take-append_seam, drop-append_seam, take-append-le}
+use lib.Seq.{take-append_seam, drop-append_seam}
 use borrow.Author.Tests.{lt-ltb, le-ltb, eq-eqb, ne_eqb}
 use Rattle.plan.specs.Measures.{element_count, row_length, row_start, span_start}
 use Rattle.plan.specs.Row.{Row, kind, elements, first_byte, end_byte, kind_facts}

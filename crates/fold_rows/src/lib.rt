@@ -1,5 +1,7 @@
 // Rows of a lent plan, read and written: elements, chains and operators, without their spans, and a span put into a row that stands.
 // Product chains are put into rows by `fold_rows::product_rows`, rows moved down by `fold_rows::moved_rows`; which operands fold is decided in the crates above.
+#![tactic(auto)]
+
 pub mod moved_rows;
 pub mod product_rows;
 

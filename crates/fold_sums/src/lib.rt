@@ -1,5 +1,7 @@
 // Sums and differences of operands that stand at the top of a lent plan, as one operator by the kind of its row.
 // Minus is in `fold_minus`; which operator a node is, is decided in `compile`.
+#![tactic(auto)]
+
 ghost use Rattle.std.specs.Prelude.{◌≡◌, ◌&&◌, ◌≤◌, ◌<◌, ltb, length};
 ghost use Rattle.plan.specs.Measures.{plan_length, most_rows};
 ghost use Rattle.chain.specs.Answer.{answered};

@@ -1,5 +1,6 @@
 // What reading a formula answers. The grammar, the tree, its value and the refusals are in specs/, laws of theirs in proofs/.
 // The readers themselves are in `formula_digits`, `formula_nodes` and `formula_readers`; `formula_read` judges a whole text.
+#![tactic(auto)]
 
 // The nodes of a tree at most, and the words that a tree takes: the node count, then two words a node.
 pub const MOST_NODES: usize = 128;

@@ -1,5 +1,7 @@
 // Bytes and numbers of a text: a byte at a place, and the decimal number that begins there, of any length, without overflow.
 // What stands round a number is for `formula_readers`.
+#![tactic(auto)]
+
 ghost use Rattle.std.specs.Prelude.{◌≡◌, ◌&&◌, ◌+◌, ◌^◌, ◌<◌, leb, get_or};
 ghost use Rattle.formula.specs.Bytes.{Digit};
 ghost use Rattle.formula_scan.specs.Readers.{NumberRead, Pushed};

@@ -1,5 +1,7 @@
 // What the readers note of a tree: its nodes in postfix order, whether x stands in it, its oddness and its least fault.
 // Refusals are in `faults`; the bytes of the text are read in `formula_digits` and `formula_readers`.
+#![tactic(auto)]
+
 pub mod faults;
 
 ghost use Rattle.std.specs.Prelude.{◌≡◌, true, false, cond, ◌||◌, ◌+◌, ◌-◌, ◌^◌, ◌≤◌, ◌<◌, eqb};

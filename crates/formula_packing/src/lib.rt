@@ -1,5 +1,7 @@
 // What a reader found as one word, and back: the word travels in a register where the struct would travel over the stack.
 // Which reader answers one, and why, is in `formula_readers`.
+#![tactic(auto)]
+
 ghost use Rattle.std.specs.Prelude.{◌≡◌, ◌<◌};
 ghost use Rattle.formula_scan.specs.Readers.{fault_places, waiting};
 ghost use Rattle.formula_scan.specs.Packing.{flag, left_of, unpacked, Packable};

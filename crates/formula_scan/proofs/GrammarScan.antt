@@ -84,7 +84,7 @@ comes_to s = scan s [] start (holds_nothing 0) refl
 pub sound : (s : List ℕ) (t : Tree) → scanned s ≡ reads t → Formula s t
 sound s t e = go (subst (ComesTo s) e (comes_to s))
   where
-    go : ComesTo s (reads t) → Formula s t
+    go : {s : List ℕ} {t : Tree} → ComesTo s (reads t) → Formula s t
     go (read M) = M
 
 pub unambiguous : {s : List ℕ} {t u : Tree} → Formula s t → Formula s u → t ≡ u

@@ -86,29 +86,28 @@ join node {a} {x} s m r (M, e) (N, q) K =
     made (λ z. node z a.tree x.tree)
     (covered-joined s m r (some_byte M) (some_byte N) ∙ ap₂ (λ f g. span (first f) (end g)) (sym e) (sym q)) K
 
-module _ {σ : PendingSum} {o : Outer} where
-  minus_in : {π : PendingProduct} {m : List ℕ} {x : Piece} {p : ℕ} (w s : List Mark) → Pending (level σ π (p ∷ m) o) w → Of a_factor x s
-      → Ends (level σ π m o) (Of a_factor (negative p x)) (w ++ s)
-  minus_in {x = x} _ s (negated {w = w} p P) (M, e) =
-      ends w (mark p minus_sign ∷ s) (simp append_assoc) P
-      (made (λ z. minus z x.tree) (covered-behind p minus_sign s (some_byte M) ∙ ap (λ k. span p (end k)) (sym e)) (leading_minus M))
+minus_in : {σ : PendingSum} {o : Outer} {π : PendingProduct} {m : List ℕ} {x : Piece} {p : ℕ} (w s : List Mark) → Pending (level σ π (p ∷ m) o) w → Of a_factor x s
+    → Ends (level σ π m o) (Of a_factor (negative p x)) (w ++ s)
+minus_in {x = x} _ s (negated {w = w} p P) (M, e) =
+    ends w (mark p minus_sign ∷ s) (simp append_assoc) P
+    (made (λ z. minus z x.tree) (covered-behind p minus_sign s (some_byte M) ∙ ap (λ k. span p (end k)) (sym e)) (leading_minus M))
 
-  factor_of : {π : PendingProduct} (m : List ℕ) {x : Piece} {l : List Mark} → Ends (level σ π m o) (Of a_factor x) l
-      → Ends (level σ π [] o) (Of a_factor (negatives m x)) l
-  unfolding negatives
-  factor_of [] E = E
-  factor_of (p ∷ m) E = factor_of m (taken minus_in E)
+factor_of : {σ : PendingSum} {o : Outer} {π : PendingProduct} (m : List ℕ) {x : Piece} {l : List Mark} → Ends (level σ π m o) (Of a_factor x) l
+    → Ends (level σ π [] o) (Of a_factor (negatives m x)) l
+unfolding negatives
+factor_of [] E = E
+factor_of (p ∷ m) E = factor_of m (taken minus_in E)
 
-  product_in : (π : PendingProduct) {x : Piece} (w r : List Mark) → Pending (level σ π [] o) w → Of a_factor x r
-      → Ends (level σ no_product [] o) (Of a_product (product_with π x)) (w ++ r)
-  unfolding product_with
-  product_in no_product w r P (N, e) = ends w r refl P (one_factor N, e)
-  product_in (multiplying a) _ r (starred {w = w} {s} p P M) N =
-      ends w (s ++ mark p star ∷ r) (simp append_assoc) P (join product s (mark p star) r M N (joined_by_star p M.0 N.0))
+product_in : {σ : PendingSum} {o : Outer} (π : PendingProduct) {x : Piece} (w r : List Mark) → Pending (level σ π [] o) w → Of a_factor x r
+    → Ends (level σ no_product [] o) (Of a_product (product_with π x)) (w ++ r)
+unfolding product_with
+product_in no_product w r P (N, e) = ends w r refl P (one_factor N, e)
+product_in (multiplying a) _ r (starred {w = w} {s} p P M) N =
+    ends w (s ++ mark p star ∷ r) (simp append_assoc) P (join product s (mark p star) r M N (joined_by_star p M.0 N.0))
 
-  product_of : {π : PendingProduct} {m : List ℕ} {x : Piece} {l : List Mark} → Ends (level σ π m o) (Of a_power x) l
-      → Ends (level σ no_product [] o) (Of a_product (product_value π m x)) l
-  product_of {π} {m} E = taken (product_in π) (factor_of m (regard (λ s M. (only_power M.0, M.1)) E))
+product_of : {σ : PendingSum} {o : Outer} {π : PendingProduct} {m : List ℕ} {x : Piece} {l : List Mark} → Ends (level σ π m o) (Of a_power x) l
+    → Ends (level σ no_product [] o) (Of a_product (product_value π m x)) l
+product_of {π = π} {m = m} E = taken (product_in π) (factor_of m (regard (λ s M. (only_power M.0, M.1)) E))
 
 signed_in : {c : ℕ} {σ : PendingSum} {o : Outer} {a x : Piece} (p : ℕ) (w s r : List Mark) → Sign c a σ → Pending (fresh o) w → Of a_sum a s
     → Of a_product x r → Ends (fresh o) (Of a_sum (sum_with σ x)) (w ++ s ++ mark p c ∷ [] ++ r)
@@ -140,6 +139,7 @@ bracket_in : {lv : Level} {t : Tree} {p closes : ℕ} (w s : List Mark) → Pend
     → Ends lv (Of an_atom (piece (span p (suc closes)) t)) (w ++ s)
 bracket_in {closes = closes} _ _ (opened {w = w} p P) (shut {s = s} M) =
     ends w (mark p open_bracket ∷ s ++ mark closes close_bracket ∷ []) (simp append_assoc) P (bracketed_sum closes M, sym (brackets_cover p closes s))
+bracket_in _ _ (signed _ S _ _) _ = elim S [ ]
 
 exponent_in : {lv : Level} {a : Piece} {t : Tree} {p closes : ℕ} (w s : List Mark) → Pending (fresh (in_exponent lv a p)) w → Shut t closes s
     → Ends lv (Of a_power (raise_to a p t (suc closes))) (w ++ s)
@@ -147,6 +147,7 @@ exponent_in {a = a} {t} {p} {closes} _ _ (raised {w = w} opens P (careted {s = s
     ends w (s ++ mark p caret ∷ mark opens open_bracket ∷ r ++ mark closes close_bracket ∷ []) (simp append_assoc) P
     (made (λ z. raise z a.tree p t) (raise_covers p opens closes s r (some_byte M) ∙ ap (λ k. span (first k) (suc closes)) (sym e))
     (to_a_sum p opens closes M N))
+exponent_in _ _ (signed _ S _ _) _ = elim S [ ]
 
 bracketed : {lv : Level} {x : Piece} {p : ℕ} {l : List Mark} (at : ℕ) → Ends (fresh (in_brackets lv p)) (Of a_sum x) l
     → Ends lv (Of an_atom (piece (span p (suc at)) x.tree)) (l ++ mark at close_bracket ∷ [])
@@ -161,6 +162,7 @@ whole_sum {x} {l} E = go E.pending E.text E.whole E.kind.0
   where
     go : {w : List Mark} → Pending (fresh bottom) w → (s : List Mark) → w ++ s ≡ l → Means a_sum s x.tree → Means a_sum l x.tree
     go at_start s e M = subst (λ y. Means a_sum y x.tree) e M
+    go (signed _ S _ _) s e M = elim S [ ]
 
 -- ---- numbers: digits that don't begin with 0
 pub data Count : List ℕ → ℕ → Type 0 where

@@ -1,5 +1,6 @@
 // What the readers of a formula answer one another. The scan that decides the grammar, and what the readers' contracts say by it, are in specs/.
 // Nobody has to believe them: proofs/ ties them to the grammar and the refusals of `formula`. The readers are in the crates above.
+#![tactic(auto)]
 
 // A code of a fault is the refusal's number times this, and the place, which is less.
 pub const PLACES: u64 = 2048;

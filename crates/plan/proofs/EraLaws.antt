@@ -253,6 +253,7 @@ pub sum_range : (w : ℕ) (p : List ℕ) (room budget : ℕ) → sound p ≡ tru
 sum_range w p room budget e few = go (eqb (kind (root_row p)) 1) refl
   where
     twice : (n c : ℕ) → 1 ≤ c → n * (c + 1) ≤ budget → n + n ≤ budget
+    twice n zero some h = elim some [ ]
     twice n (suc c) some h = omega arith
 
     go : (b : Bool) → eqb (kind (root_row p)) 1 ≡ b → nat_abs (eras_over w (points_for p room budget) p) < 2 ^ 63

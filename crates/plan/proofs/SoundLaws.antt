@@ -13,7 +13,7 @@ use Rattle.plan.specs.Measures.{element_count, plan_length, row_length, most_row
 use Rattle.plan.specs.declared.Kind.{Kind}
 use Rattle.plan.specs.Row.{Row, kind, word_a, word_b, costing, kind_table, kind_facts, fixed_cost, operand_count, is_chain, row_cost, between, sound_a, sound_b, elements_used, all_zero, keeps_table, odd_constant, sound_base, sound_span, sound_row}
 use Rattle.plan.specs.Plan.{row_count, row, rows_from, first_rows, rows, sound_from, sound}
-use Rattle.plan.proofs.RowLaws.{row_part, row-part, row_at, length-row, word_at, rows-add, rows_next, length-rows, sound-append}
+use Rattle.plan.proofs.RowLaws.{row_at, length-row, word_at, rows-add, rows_next, length-rows, sound-append}
 
 -- ---- both of two tests
 pub and_left : (a b : Bool) → (a && b) ≡ true → a ≡ true

@@ -1,6 +1,6 @@
 -- A plan: its rows, soundness and cost, of any list of words.
 -- What its rows are worth at the present point, and its shift, are in Points.antt.
-use Rattle.std.specs.Prelude.{Bool, true, cond, ◌&&◌, List, [], ◌∷◌, ◌++◌, ℕ, zero, suc, ◌+◌, ◌*◌, ltb, length, get_or, take, drop}
+use Rattle.std.specs.Prelude.{Bool, true, cond, ◌&&◌, List, [], ◌∷◌, ◌++◌, ℕ, zero, suc, ◌+◌, ltb, length, get_or, take, drop}
 use Rattle.std.proofs.Math.Seq.{slice}
 use Rattle.plan.specs.Measures.{plan_length, row_length, most_rows, row_start}
 use Rattle.plan.specs.Row.{Row, row_cost, between, all_zero, sound_row}

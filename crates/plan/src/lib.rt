@@ -1,5 +1,6 @@
 // What the calls on plans answer, and a line of the table of row kinds. What a plan is and means is in specs/, its laws in proofs/.
 // The calls are in `plan_sound`, `plan_costs`, `plan_fill` and `plan_eras`, the work of a point in `plan_points`; formulas live above.
+#![tactic(auto)]
 
 // The layout: words of a row, the place of its elements and their number, the place of its span, the rows, and the words of a plan.
 pub const ROW_WORDS: usize = 22;

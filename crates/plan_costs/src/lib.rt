@@ -1,5 +1,7 @@
 // What a plan costs: the cost of a row and of a plan that is sound, and the call, to which any words may be lent.
 // Whether a plan is sound is checked in `plan_sound`; what a point costs beside, and how many are written, is for `plan_fill` and `plan_eras`.
+#![tactic(auto)]
+
 ghost use Rattle.std.specs.Prelude.{◌≡◌, true, ◌≤◌, ◌<◌, min, length};
 ghost use Rattle.plan.specs.Measures.{plan_length, row_length};
 ghost use Rattle.plan.specs.Row.{kind, word_b, row_cost};

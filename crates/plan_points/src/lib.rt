@@ -1,5 +1,7 @@
 // The work of one point of a sound plan: the values of its rows, and one shift of its chains, in place.
 // How many points there are is for `plan_fill` and `plan_eras`.
+#![tactic(auto)]
+
 ghost use Rattle.std.specs.Prelude.{◌≡◌, ◌<◌, ◌≤◌, true, length};
 ghost use Rattle.plan.specs.Measures.{plan_length, row_length, most_rows, element_count};
 ghost use Rattle.plan.specs.Row.{kind, word_a, word_b, is_chain};

@@ -1,5 +1,7 @@
 // What is asked of one row of a plan: by the table of row kinds its columns, its unused words and the constant that a raise stands on; and its span.
 // The table itself is in `plan_rows::kinds`; a plan's rows together are checked in `plan_sound`.
+#![tactic(auto)]
+
 ghost use Rattle.std.specs.Prelude.{◌≡◌, ◌≤◌, ◌<◌, length};
 ghost use Rattle.plan.specs.Measures.{row_length, most_rows};
 ghost use Rattle.plan.specs.Row.{sound_a, sound_b, elements_used, all_zero, keeps_table, odd_constant, sound_span};

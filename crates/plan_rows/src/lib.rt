@@ -1,5 +1,7 @@
 // Where a row of a plan stands, the row as a part of the plan, and a word of it, for the crates above.
 // The table of row kinds is in `kinds`; what is asked of a row is in `plan_sound`.
+#![tactic(auto)]
+
 pub mod kinds;
 
 ghost use Rattle.std.specs.Prelude.{◌≡◌, ◌≤◌, ◌<◌, length, get_or};

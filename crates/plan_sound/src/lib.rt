@@ -1,5 +1,7 @@
 // Whether a plan is sound, row by row, for callers. Any words may be lent.
 // What is asked of one row is in `plan_row_checks`; what a sound plan costs and fills is in `plan_costs` and the crates above it.
+#![tactic(auto)]
+
 ghost use Rattle.std.specs.Prelude.{◌≡◌, true, [], ◌≤◌, ◌<◌, length};
 ghost use Rattle.plan.specs.Measures.{plan_length, most_rows};
 ghost use Rattle.plan.specs.Row.{keeps_table, sound_base, sound_row};

@@ -23,7 +23,7 @@ use Rattle.fold.proofs.ReadBack.{some_rows, rows_of, row_back, chain_back}
 use Rattle.fold.proofs.Origins.{kind_of, word_a_of, word_b_of, root_words, operand_rows, root_first, root_end, Below, fold_below}
 use Rattle.fold.proofs.RowOrder.{Standing, front, later, root_stands, operands_stand}
 use Rattle.reason.specs.RowTrees.{span_in, operator_over, tree_over, tree_after, trees, row_tree}
-use Rattle.reason.specs.Reasons.{folded_again, Stays, Reason}
+use Rattle.reason.specs.Reasons.{folded_again, Stays}
 use Rattle.reason.specs.declared.ReasonAnswer.{ReasonAnswer}
 use Rattle.reason.specs.Explaining.{Explaining, refused, not-counted, no_operator, operator}
 use Rattle.reason.proofs.TreeLaws.{earlier_tree}

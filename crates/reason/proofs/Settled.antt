@@ -8,7 +8,6 @@ use Rattle.word.specs.Word as Word
 use Rattle.chain.specs.Chain.{value, rest, words, without_trailing, trimmed}
 use Rattle.chain.specs.ProductChain as ProductChain
 use Rattle.chain.proofs.Trimming.{trimmed_twice}
-use Rattle.formula.specs.Tree as Tree
 use Rattle.formula.specs.Tree.{Span, Tree, span_of}
 use Rattle.fold.specs.Folded.{Spans, Folded, elements, of_sum, of_product, trimmed_sum, trimmed_product}
 use Rattle.fold.specs.Folding.{word_of, fold_sum, fold_minus, fold_difference, fold_product, fold_power, fold_raise, operands, fold}

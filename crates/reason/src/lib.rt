@@ -1,5 +1,6 @@
 // Why a row is still there, as mathematics: the folded trees that rows stand for, the reasons and their words, and the theorems about them. No code
 // lives here; the call is in `reason_call`.
+#![tactic(auto)]
 
 // The refusal's number and place, 0 and 0 if accepted; the reason, 0 if there is none; and the row's first and end byte.
 #[derive(Clone, Copy)]

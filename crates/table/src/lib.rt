@@ -1,5 +1,6 @@
 // What is found in a line of a job file. What lines, fields and numbers are, and what a run prints, is in specs/, laws of it in proofs/.
 // The code that takes a line apart is in `table_fields`, that which prints in the crates above.
+#![tactic(auto)]
 
 // The tools that run over a job file: the table printer, which prints an accepted job's points, and the row explainer, which prints its rows and why they are
 // still there.

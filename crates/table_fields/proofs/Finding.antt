@@ -1,24 +1,25 @@
--- The kit's search for a byte finds the end of what stands before it. What fields are is in the definitions of `table`.
-use mathlib.Core.Path.{◌≡◌, refl, ap, ◌∙◌}
-use mathlib.Core.Bool.{Bool, true, false, cond}
+-- The search for a byte, one place at a time: it ends at the byte or at the list's end, and else goes on. What fields are is in the definitions of `table`.
+use mathlib.Core.Path.{◌≡◌, refl}
 use mathlib.Core.List.{List, [], ◌∷◌}
-use Prim.Native.Nat.{ℕ, suc}
-use lib.Dec.{eqb}
-use lib.ListN.{length, drop}
-use lib.Seq.{take-length}
-use Rattle.bytes.specs.Bytes.{slice, index_after, index_of}
+use Prim.Native.Nat.{ℕ, suc, ◌+◌, ◌≤◌, ◌<◌}
+use native.Mathlib.Numerals.{add-one}
+use lib.ListN.{length, get_or, drop, drop_of_length-le}
+use lib.Seq.{drop-cons}
+use borrow.Author.Tests.{eq-eqb, ne_eqb}
 use Rattle.table.specs.Parts.{before}
 
-index_before : (b : ℕ) (s : List ℕ) → index_of b s ≡ length (before b s)
-unfolding index_of index_after before
-index_before b [] = refl
-index_before b (c ∷ s) = go (eqb c b) (index_before b s)
-  where
-    go : (t : Bool) → index_of b s ≡ length (before b s) → index_after t (index_of b s) ≡ length (cond t [] (c ∷ before b s))
-    go true e = refl
-    go false e = ap suc e
+module _ (b : ℕ) (l : List ℕ) (at : ℕ) where
+  -- The byte stands at the place: nothing stands before it.
+  pub found_here : at < length l → get_or l at 0 ≡ b → length (before b (drop at l)) ≡ 0
+  unfolding before
+  found_here h e = rw (drop-cons l at 0 h, eq-eqb (get_or l at 0) b e)
 
--- Searched from a place to the end.
-pub index_found : (b from : ℕ) (l : List ℕ) → index_of b (slice from (length l) l) ≡ length (before b (drop from l))
-unfolding slice
-index_found b from l = ap (λ s. index_of b (drop from s)) (take-length l) ∙ index_before b (drop from l)
+  -- Another byte stands there: one more than from the next place on.
+  pub found_later : at < length l → (get_or l at 0 ≡ b → ⊥) → length (before b (drop at l)) ≡ suc (length (before b (drop (at + 1) l)))
+  unfolding before
+  found_later h other = rw (drop-cons l at 0 h, ne_eqb (get_or l at 0) b other, add-one at)
+
+  -- The list ends there.
+  pub found_nowhere : length l ≤ at → length (before b (drop at l)) ≡ 0
+  unfolding before
+  found_nowhere h = rw (drop_of_length-le l {i = at} h)

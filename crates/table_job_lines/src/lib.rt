@@ -1,5 +1,7 @@
 // The lines of a job in a lent buffer: `no`, `job` and the points.
 // Which of them a job prints is for `table_jobs` and `table_lines`; single numbers and bytes are written in `table_fields::numerals`.
+#![tactic(auto)]
+
 ghost use Rattle.std.specs.Prelude.{◌∷◌, ◌+◌, ◌*◌, ◌≤◌, length};
 ghost use Rattle.table.specs.Decimal.{decimal};
 ghost use Rattle.table_fields.specs.Writing.{Wrote};

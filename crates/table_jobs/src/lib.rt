@@ -1,5 +1,7 @@
 // A job printed into a lent buffer by either tool: the formula compiled, and its points filled or its rows explained.
 // Which line is a job, and which of its fields are whose, is decided in `table_lines` and `table_fields`.
+#![tactic(auto)]
+
 ghost use Rattle.std.specs.Prelude.{◌≡◌, ◌+◌, ◌*◌, ◌≤◌, length};
 ghost use Rattle.plan.specs.Measures.{plan_length};
 ghost use Rattle.plan.specs.Plan.{refusal};

@@ -1,5 +1,7 @@
 // What is judged of a header line, a defaults line and a job line.
 // Where fields begin and end, and whose field is taken, is in `table_fields`; what a judged line prints is in the crates above.
+#![tactic(auto)]
+
 ghost use Rattle.std.specs.Prelude.{◌≡◌};
 ghost use Rattle.table.specs.Judged.{same_bytes, is_header, is_misshapen, empty_field, job_refused, judged_defaults, judged_numbers, judged_job};
 

@@ -1,5 +1,7 @@
 // What a whole line does, in a run of either tool: the header, the defaults line, a job.
 // How lines are found in the input is for `table_steps`.
+#![tactic(auto)]
+
 ghost use Rattle.std.specs.Prelude.{◌≡◌, List, ℕ, ◌+◌, ◌-◌, ◌*◌, ◌^◌, ◌≤◌, ◌<◌, length};
 ghost use Rattle.plan.specs.Measures.{plan_length};
 ghost use Rattle.table.specs.declared.Tool.{Tool};

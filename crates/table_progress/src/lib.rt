@@ -1,5 +1,7 @@
 // Where a run over a job file stands, and what a step and a line answer. What they do is in specs/, its laws in proofs/.
 // A whole line is done in `table_lines`, the input is taken step by step in `table_steps`; what a run prints, as 01 says it, is in `table`.
+#![tactic(auto)]
+
 
 // Which line comes next.
 #[derive(Clone, Copy)]

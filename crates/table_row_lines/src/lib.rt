@@ -1,5 +1,7 @@
 // The line of a row in a lent buffer, for the row explainer: its number, span and cost, its reason in request Six's words, and its text.
 // Which rows are printed, and what their reasons are, is for `table_rows`; `no` and `job` lines and points are in `table_job_lines`.
+#![tactic(auto)]
+
 ghost use Rattle.std.specs.Prelude.{◌≡◌, ◌∷◌, ◌++◌, ◌+◌, ◌≤◌, ◌<◌, length};
 ghost use Rattle.plan.specs.Measures.{row_length, longest_text};
 ghost use Rattle.plan.specs.Row.{first_byte, end_byte, row_cost};

@@ -1,5 +1,7 @@
 // The rows of a formula's plan, printed for the row explainer: those of kinds 3 to 8, each with its reason.
 // The line of a row is written in `table_row_lines`, its reason found in `reason_call`; what else a job prints is for `table_jobs`.
+#![tactic(auto)]
+
 ghost use Rattle.std.specs.Prelude.{◌≡◌, ◌+◌, ◌*◌, ◌≤◌, ◌<◌, length};
 ghost use Rattle.plan.specs.Measures.{most_rows};
 ghost use Rattle.plan.specs.Plan.{row_count, refusal};

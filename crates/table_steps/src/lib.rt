@@ -1,5 +1,7 @@
 // A run of a tool over a job file, as steps over lent buffers: each takes the input up to a line feed and writes what the line prints.
 // What a whole line does is in `table_lines`; reading and writing files is the program's.
+#![tactic(auto)]
+
 ghost use Rattle.std.specs.Prelude.{◌≡◌, true, false, ◌+◌, ◌-◌, ◌^◌, ◌≤◌, ◌<◌, length};
 ghost use Rattle.plan.specs.Measures.{plan_length};
 ghost use Rattle.table_progress.specs.Runs.{lent};

@@ -1,5 +1,7 @@
 // Words modulo 2^64: the product and the power that the language's own operators leave undefined, a word read as a signed number, and lent words set to 0.
 // Sums and differences are the supplied `std::num` ones; chains and formulas live above.
+#![tactic(auto)]
+
 ghost use Rattle.std.specs.Prelude.{◌≡◌, length, replicate};
 ghost use Rattle.word.specs.Word.{product, power};
 ghost use Rattle.word.specs.Signed.{signed};

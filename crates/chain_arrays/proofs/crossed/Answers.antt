@@ -1,5 +1,5 @@
 -- `crossed` tells the four ways of two words apart: whether they add past the largest word, and whether the second reads as a number below 0.
-use Rattle.std.proofs.Common.{sym, arith, rules}
+use Rattle.std.proofs.Common.{sym, arith}
 use Rattle.chain.proofs.CrossingLaws.{crosses_up, stays_low, crosses_down, stays_high}
 use Rattle.chain_arrays.proofs.crossed.Goals as goal
 

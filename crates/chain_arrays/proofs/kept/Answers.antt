@@ -1,4 +1,4 @@
-use Rattle.std.proofs.Common.{◌≡◌, ℕ, ◌+◌, ◌-◌, ◌<◌, ◌≤◌, take, refl, ap, ◌∙◌, arith, rules}
+use Rattle.std.proofs.Common.{◌≡◌, ℕ, ◌+◌, ◌<◌, ◌≤◌, take, refl, ap, ◌∙◌, arith}
 use Rattle.chain.specs.Chain.{row}
 use Rattle.chain.proofs.Rows.{row_store}
 use Rattle.chain_arrays.proofs.kept.Goals as goal
@@ -13,4 +13,4 @@ pub loop-i-preserved : goal.loop-i-preserved
 loop-i-preserved c = (omega arith, row_store 17 _ _ (omega arith) c.loop-i.invariant.1 refl)
 
 pub returns : goal.returns
-returns c = c.loop-i.invariant.1 ∙ ap (λ k. row 17 (take k c.args.t1)) (ends c.loop-i.i c.args.last c.loop-i.invariant.0 c.loop-i-test.false)
+returns c = c.loop-i.invariant.1 ∙ ap (λ k. row 17 (take k c.args.f)) (ends c.loop-i.i c.args.last c.loop-i.invariant.0 c.loop-i-test.false)

@@ -1,7 +1,6 @@
 -- `kept` holds the words up to the given length. Invariant: the first i of them are stored.
-use Rattle.std.proofs.Common.{◌≡◌, ℕ, ◌+◌, ◌-◌, ◌<◌, ◌≤◌, take, refl, ap, ◌∙◌, arith, rules}
+use Rattle.std.proofs.Common.{◌≡◌, ◌+◌, ◌-◌, ◌≤◌, take}
 use Rattle.chain.specs.Chain.{row}
-use Rattle.chain.proofs.Rows.{row_store}
 use Rattle.chain_arrays.proofs.kept.Given as goal
 
 abbrev pub invariant-loop-i : goal.invariant-loop-i

@@ -1,5 +1,4 @@
 -- `refusal` gives the constant 0 beside the number.
-use Rattle.std.proofs.Common.{rules}
 use Rattle.chain_arrays.proofs.refusal.Goals as goal
 
 pub returns : goal.returns

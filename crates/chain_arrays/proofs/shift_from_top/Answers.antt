@@ -1,4 +1,4 @@
-use Rattle.std.proofs.Common.{◌≡◌, ◌+◌, ◌-◌, ◌≤◌, length, get_or, refl, ap, ◌∙◌, arith, length-set, rules}
+use Rattle.std.proofs.Common.{◌-◌, length, refl, ap, ◌∙◌, arith, length-set}
 use Rattle.chain.proofs.Shifting.{unturned, unturned_none, unturned_all, from_top_turn}
 use Rattle.chain_arrays.specs.Operations.{worked}
 use Rattle.chain_arrays.proofs.shift_from_top.Goals as goal

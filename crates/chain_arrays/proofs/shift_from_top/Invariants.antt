@@ -1,6 +1,6 @@
 -- `shift_from_top` shifts in place, from the top down. Invariant: the words above the place are new, the others old.
-use Rattle.std.proofs.Common.{◌≡◌, ◌+◌, ◌-◌, ◌≤◌, length, get_or, refl, ap, ◌∙◌, arith, length-set, rules}
-use Rattle.chain.proofs.Shifting.{unturned, unturned_none, unturned_all, from_top_turn}
+use Rattle.std.proofs.Common.{◌≡◌, ◌-◌, ◌≤◌, length}
+use Rattle.chain.proofs.Shifting.{unturned}
 use Rattle.chain_arrays.specs.Operations.{worked}
 use Rattle.chain_arrays.proofs.shift_from_top.Given as goal
 

@@ -1,4 +1,4 @@
-use Rattle.std.proofs.Common.{◌≡◌, ℕ, ◌-◌, ◌≤◌, length, refl, ap, ◌∙◌, arith, length-set, rules}
+use Rattle.std.proofs.Common.{◌≡◌, ℕ, ◌-◌, length, refl, ap, ◌∙◌, arith, length-set, rules}
 use Rattle.chain_arrays.specs.Operations.{joining}
 use Rattle.chain.proofs.Shifting.{turned, turned_none, turned_all, shift_turn}
 use Rattle.chain_arrays.proofs.shift_part.Goals as goal
@@ -30,4 +30,4 @@ returns c =
     let args = c.args in
     let f = args.f.now in
     turn.invariant.3
-    ∙ turned_all (joining args.operation) 64 (length f - turn.left) f (omega arith) (c.slice_known-1.given (length f - turn.left)).fits
+    ∙ turned_all (joining args.operation) 64 (length f - turn.left) f (omega arith) (search rules)

@@ -1,7 +1,7 @@
 -- `shift_part` shifts in place, from the bottom up. Invariant: the words below the place are new, the others old.
-use Rattle.std.proofs.Common.{◌≡◌, ℕ, ◌-◌, ◌≤◌, length, refl, ap, ◌∙◌, arith, length-set, rules}
+use Rattle.std.proofs.Common.{◌≡◌, ◌-◌, ◌≤◌, length}
 use Rattle.chain_arrays.specs.Operations.{joining}
-use Rattle.chain.proofs.Shifting.{turned, turned_none, turned_all, shift_turn}
+use Rattle.chain.proofs.Shifting.{turned}
 use Rattle.chain_arrays.proofs.shift_part.Given as goal
 
 abbrev pub invariant-loop-left : goal.invariant-loop-left

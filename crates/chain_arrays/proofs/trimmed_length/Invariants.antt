@@ -1,7 +1,6 @@
 -- `trimmed_length` finds the last word that is not the unit. Invariant: without the words past it the chain trims to the same.
-use Rattle.std.proofs.Common.{◌≡◌, ℕ, ◌+◌, ◌-◌, ◌≤◌, List, length, take, sym, ap, ◌∙◌, arith, length-take-le, take_all, rules}
+use Rattle.std.proofs.Common.{◌≡◌, ◌+◌, ◌≤◌, take}
 use Rattle.chain.specs.Chain.{trimmed}
-use Rattle.chain.proofs.Trimming.{trailing_dropped, trailing_stopped, trailing_none}
 use Rattle.chain_arrays.proofs.trimmed_length.Given as goal
 
 abbrev pub invariant-loop-last : goal.invariant-loop-last

@@ -1,7 +1,6 @@
-use Rattle.std.proofs.Common.{◌≡◌, ◌-◌, ◌≤◌, take, sym, ◌∙◌, arith, rules}
-use Rattle.chain.specs.Chain.{row}
+use Rattle.std.proofs.Common.{sym, ◌∙◌, arith, rules}
 use Rattle.chain.proofs.Rows.{row_store, array_filled}
-use Rattle.chain_arrays.specs.Operations.{worked, word_by_word}
+use Rattle.chain_arrays.specs.Operations.{worked}
 use Rattle.chain_arrays.proofs.Paired.{entry_paired, length-paired}
 use Rattle.chain_arrays.proofs.word_by_word.Goals as goal
 
@@ -12,9 +11,9 @@ pub loop-i-preserved : goal.loop-i-preserved
 loop-i-preserved c =
     let args = c.args in
     let turn = c.loop-i in
-    (omega arith, row_store 17 _ _ (omega arith) turn.invariant.1 (c.worked.ensures ∙ sym (entry_paired (worked args.operation) args.t2 args.t3 turn.i (search rules) (search rules))))
+    (omega arith, row_store 17 _ _ (omega arith) turn.invariant.1 (c.worked.ensures ∙ sym (entry_paired (worked args.operation) args.f args.g turn.i (search rules) (search rules))))
 
 pub returns : goal.returns
 returns c =
     let args = c.args in
-    array_filled 17 _ c.loop-i.i (length-paired (worked args.operation) 17 args.t2 args.t3 (search rules) (search rules)) c.loop-i.invariant.1 (omega arith)
+    array_filled 17 _ c.loop-i.i (length-paired (worked args.operation) 17 args.f args.g (search rules) (search rules)) c.loop-i.invariant.1 (omega arith)

@@ -1,9 +1,7 @@
 -- `word_by_word` works out each word of two arrays. Invariant: the first i words are stored.
-use Rattle.std.proofs.Common.{◌≡◌, ◌-◌, ◌≤◌, take, sym, ◌∙◌, arith, rules}
+use Rattle.std.proofs.Common.{◌≡◌, ◌-◌, ◌≤◌, take}
 use Rattle.chain.specs.Chain.{row}
-use Rattle.chain.proofs.Rows.{row_store, array_filled}
-use Rattle.chain_arrays.specs.Operations.{worked, word_by_word}
-use Rattle.chain_arrays.proofs.Paired.{entry_paired, length-paired}
+use Rattle.chain_arrays.specs.Operations.{word_by_word}
 use Rattle.chain_arrays.proofs.word_by_word.Given as goal
 
 abbrev pub invariant-loop-i : goal.invariant-loop-i

@@ -11,11 +11,11 @@ loop-i-init c = (omega arith, c.zeros-r.ensures)
 pub loop-i-preserved : goal.loop-i-preserved
 loop-i-preserved c =
     let turn = c.loop-i in
-    let f = c.args.t1 in
+    let f = c.args.f in
     (omega arith, row_store 17 turn.i (words 64 (alternated 64 f)) (omega arith) turn.invariant.1 (c.signed_at.ensures ∙ sym (entry_alternated 64 f turn.i)))
 
 pub returns : goal.returns
 returns c =
     let turn = c.loop-i in
-    let f = c.args.t1 in
+    let f = c.args.f in
     array_filled 17 (words 64 (alternated 64 f)) turn.i (length-alternated 64 f ∙ search rules) turn.invariant.1 (omega arith)

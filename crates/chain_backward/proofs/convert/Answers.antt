@@ -3,8 +3,6 @@ use Rattle.chain_arrays.specs.Operations.{worked}
 use Rattle.chain_backward.proofs.Turns.{underway, underway_none, underway_all, underway_turn, length_underway}
 use Rattle.chain_backward.proofs.convert.Goals as goal
 
--- GONE slice-bounds-shift-from-top-end
---  omega arith
 
 pub loop-j-init : goal.loop-j-init
 loop-j-init c = (omega arith, c.requires, underway_none (worked c.args.operation) c.args.f.now)

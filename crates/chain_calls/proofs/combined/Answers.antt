@@ -1,7 +1,6 @@
 -- `combined` works out the kept words and trims.
 use native.Mathlib.Omega.{arith}
 use borrow.Author.Tests.{lt-ltb, le-ltb}
-use borrow.Author.Rules.{rules}
 use Rattle.chain_calls.proofs.combined.Goals as goal
 
 pub returns-then-k-gt-LONGEST : goal.returns-then-k-gt-LONGEST

@@ -9,12 +9,12 @@ use Rattle.chain.specs.Answer.{given}
 use Rattle.chain.proofs.Calls.{kept-length, length-given, product_trims}
 use Rattle.chain_calls.proofs.product.Goals as goal
 
--- GONE overflow-add-if3
--- 
---     let args = c.before.before.before.before.before.before.args in
---     let f-length : c.before.trimmed-length.result ≡ length (given args.f args.k) - 1 = kept-length args.f args.k (search rules) c.before.trimmed-length.ensures c.before.before.before.kept.ensures in
---     let g-length : c.trimmed-length2.result ≡ length (given args.g args.l) - 1 = kept-length args.g args.l (search rules) c.trimmed-length2.ensures c.before.before.kept2.ensures in
---     omega (arith, length-given args.f args.k (search rules), length-given args.g args.l (search rules))
+pub overflow_add-f_trimmed : goal.overflow_add-f_trimmed
+overflow_add-f_trimmed c =
+    let args = c.args in
+    let f-length : c.trimmed_length-f_trimmed.result ≡ length (given args.f args.k) - 1 = kept-length args.f args.k (search rules) c.trimmed_length-f_trimmed.ensures c.kept-f_kept.ensures in
+    let g-length : c.trimmed_length-g_trimmed.result ≡ length (given args.g args.l) - 1 = kept-length args.g args.l (search rules) c.trimmed_length-g_trimmed.ensures c.kept-g_kept.ensures in
+    omega (arith, length-given args.f args.k (search rules), length-given args.g args.l (search rules))
 
 pub returns-then-k-gt-LONGEST : goal.returns-then-k-gt-LONGEST
 returns-then-k-gt-LONGEST c = rw (c.refusal.ensures, lt-ltb 16 c.args.k (omega arith))

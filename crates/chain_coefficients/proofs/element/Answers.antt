@@ -1,6 +1,6 @@
-use Rattle.std.proofs.Common.{◌≡◌, ◌+◌, ◌-◌, ◌*◌, ◌%◌, ◌^◌, ◌<◌, ◌≤◌, length, get_or, drop, sym, ap, ◌∙◌, zero-add, arith, rules}
+use Rattle.std.proofs.Common.{◌*◌, ◌%◌, ◌^◌, get_or, sym, ap, ◌∙◌, zero-add, arith}
 use Rattle.chain.proofs.CoefficientLaws.{element_turn, element_done}
-use Rattle.chain.specs.Coefficients.{element_from, onto}
+use Rattle.chain.specs.Coefficients.{element_from}
 use Rattle.chain_coefficients.proofs.element.Goals as goal
 
 pub loop-j-init : goal.loop-j-init

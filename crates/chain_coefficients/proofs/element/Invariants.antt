@@ -1,7 +1,6 @@
 -- `element` sums over the coefficients. Invariant: the total and what is left to add stay the same together.
-use Rattle.std.proofs.Common.{◌≡◌, ◌+◌, ◌-◌, ◌*◌, ◌%◌, ◌^◌, ◌<◌, ◌≤◌, length, get_or, drop, sym, ap, ◌∙◌, zero-add, arith, rules}
-use Rattle.chain.proofs.CoefficientLaws.{element_turn, element_done}
-use Rattle.chain.specs.Coefficients.{element_from, onto}
+use Rattle.std.proofs.Common.{◌≡◌, ◌+◌, ◌-◌, ◌%◌, ◌^◌, ◌<◌, ◌≤◌, length, drop}
+use Rattle.chain.specs.Coefficients.{element_from}
 use Rattle.chain_coefficients.proofs.element.Given as goal
 
 abbrev pub invariant-loop-j : goal.invariant-loop-j

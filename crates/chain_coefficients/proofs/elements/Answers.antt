@@ -1,6 +1,4 @@
-use Rattle.std.proofs.Common.{◌≡◌, ◌-◌, ◌≤◌, take, sym, ◌∙◌, arith, rules}
-use Rattle.chain.specs.Chain.{row, words}
-use Rattle.chain.specs.Coefficients.{from_coefficients}
+use Rattle.std.proofs.Common.{sym, ◌∙◌, arith}
 use Rattle.chain.proofs.Rows.{row_store, row-filled}
 use Rattle.chain.proofs.CoefficientLaws.{entry_coefficients}
 use Rattle.chain_coefficients.proofs.elements.Goals as goal

@@ -1,9 +1,7 @@
 -- `elements` holds all 17 elements. Invariant: the first m are stored.
-use Rattle.std.proofs.Common.{◌≡◌, ◌-◌, ◌≤◌, take, sym, ◌∙◌, arith, rules}
+use Rattle.std.proofs.Common.{◌≡◌, ◌-◌, ◌≤◌, take}
 use Rattle.chain.specs.Chain.{row, words}
 use Rattle.chain.specs.Coefficients.{from_coefficients}
-use Rattle.chain.proofs.Rows.{row_store, row-filled}
-use Rattle.chain.proofs.CoefficientLaws.{entry_coefficients}
 use Rattle.chain_coefficients.proofs.elements.Given as goal
 
 abbrev pub invariant-loop-m : goal.invariant-loop-m

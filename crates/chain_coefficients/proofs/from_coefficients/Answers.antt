@@ -1,5 +1,5 @@
 -- `from_coefficients` answers the trimmed chain of the coefficients, or refuses more than 17.
-use Rattle.std.proofs.Common.{length, arith, rules, le-ltb, lt-ltb}
+use Rattle.std.proofs.Common.{length, arith, le-ltb, lt-ltb}
 use Rattle.chain.proofs.CoefficientLaws.{row_coefficients}
 use Rattle.chain_coefficients.proofs.from_coefficients.Goals as goal
 

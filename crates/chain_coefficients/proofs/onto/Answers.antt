@@ -1,5 +1,5 @@
 -- `onto` reads the table, whose every entry is m! * S(j, m).
-use Rattle.std.proofs.Common.{arith, rules}
+use Rattle.std.proofs.Common.{arith}
 use Rattle.chain.proofs.OntoTable.{table, table_entry}
 use Rattle.chain_coefficients.proofs.onto.Goals as goal
 

@@ -1,8 +1,7 @@
-use mathlib.Core.Path.{◌≡◌, ◌∙◌, ap, refl}
-use Prim.Native.Nat.{ℕ, ◌+◌, ◌-◌, ◌≤◌}
+use mathlib.Core.Path.{◌∙◌, ap, refl}
+use Prim.Native.Nat.{◌-◌}
 use native.Mathlib.Omega.{arith}
-use lib.ListN.{length, length-set}
-use borrow.Author.Rules.{rules}
+use lib.ListN.{length-set}
 use Rattle.chain_arrays.specs.Operations.{worked}
 use Rattle.chain_values.proofs.Passing.{meeting, meeting-none, meeting-all, meet_turn}
 use Rattle.chain_values.proofs.meet.Goals as goal

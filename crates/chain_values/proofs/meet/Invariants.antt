@@ -1,11 +1,9 @@
 -- `meet` is one pass in place, from the top down. Invariant: the words above the place are new, the others old.
-use mathlib.Core.Path.{◌≡◌, ◌∙◌, ap, refl}
-use Prim.Native.Nat.{ℕ, ◌+◌, ◌-◌, ◌≤◌}
-use native.Mathlib.Omega.{arith}
-use lib.ListN.{length, length-set}
-use borrow.Author.Rules.{rules}
+use mathlib.Core.Path.{◌≡◌}
+use Prim.Native.Nat.{◌≤◌}
+use lib.ListN.{length}
 use Rattle.chain_arrays.specs.Operations.{worked}
-use Rattle.chain_values.proofs.Passing.{meeting, meeting-none, meeting-all, meet_turn}
+use Rattle.chain_values.proofs.Passing.{meeting}
 use Rattle.chain_values.proofs.meet.Given as goal
 
 abbrev pub invariant-loop-left : goal.invariant-loop-left

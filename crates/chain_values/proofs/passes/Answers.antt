@@ -1,15 +1,11 @@
-use mathlib.Core.Path.{◌≡◌, ◌∙◌, ap}
-use Prim.Native.Nat.{◌+◌, ◌-◌, ◌≤◌}
+use mathlib.Core.Path.{◌∙◌, ap}
+use Prim.Native.Nat.{◌+◌}
 use native.Mathlib.Omega.{arith}
 use lib.ListN.{length}
-use borrow.Author.Rules.{rules}
 use Rattle.chain_arrays.specs.Operations.{worked}
 use Rattle.chain_values.specs.Passes.{passes}
 use Rattle.chain_values.proofs.Passing.{length-passes, passes_none, pass_turn}
 use Rattle.chain_values.proofs.passes.Goals as goal
-
--- GONE slice-bounds-meet-end
---  omega arith
 
 pub loop-j-init : goal.loop-j-init
 loop-j-init c = (omega arith, c.requires, passes_none (worked c.args.operation) c.args.f.now)

@@ -1,12 +1,9 @@
 -- `passes` makes 16 passes over 17 words. Invariant: j of them are made.
-use mathlib.Core.Path.{◌≡◌, ◌∙◌, ap}
-use Prim.Native.Nat.{◌+◌, ◌-◌, ◌≤◌}
-use native.Mathlib.Omega.{arith}
+use mathlib.Core.Path.{◌≡◌}
+use Prim.Native.Nat.{◌-◌, ◌≤◌}
 use lib.ListN.{length}
-use borrow.Author.Rules.{rules}
 use Rattle.chain_arrays.specs.Operations.{worked}
 use Rattle.chain_values.specs.Passes.{passes}
-use Rattle.chain_values.proofs.Passing.{length-passes, passes_none, pass_turn}
 use Rattle.chain_values.proofs.passes.Given as goal
 
 abbrev pub invariant-loop-j : goal.invariant-loop-j

@@ -6,4 +6,4 @@ use Rattle.chain_values.proofs.power.Goals as goal
 pub returns : goal.returns
 returns c =
     let args = c.args in
-    power_by_values args.t1 (search rules) c.passes.ensures args.n c.raise.ensures c.passes-2.ensures
+    power_by_values args.f (search rules) c.passes.ensures args.n c.raise.ensures c.passes-2.ensures

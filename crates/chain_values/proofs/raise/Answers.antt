@@ -1,10 +1,9 @@
-use mathlib.Core.Path.{◌≡◌, ◌∙◌, refl}
-use Prim.Native.Nat.{ℕ, ◌-◌, ◌≤◌}
+use mathlib.Core.Path.{◌∙◌, refl}
+use Prim.Native.Nat.{ℕ}
 use native.Mathlib.Omega.{arith}
-use lib.ListN.{length, length-set}
-use borrow.Author.Rules.{rules}
+use lib.ListN.{length-set}
 use Rattle.word.specs.Word as Word
-use Rattle.chain_values.proofs.Passing.{done, done_none, done_all, done_turn}
+use Rattle.chain_values.proofs.Passing.{done_none, done_all, done_turn}
 use Rattle.chain_values.proofs.raise.Goals as goal
 
 abbrev to : ℕ → ℕ → ℕ

@@ -1,6 +1,5 @@
 -- `are_products` tests the kinds of two rows.
 use mathlib.Core.Path.{sym}
-use borrow.Author.Rules.{rules}
 use Rattle.fold_factors.proofs.are_products.Goals as goal
 
 pub returns-then-is_product : goal.returns-then-is_product

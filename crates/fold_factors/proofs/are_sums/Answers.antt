@@ -3,7 +3,6 @@ use Rattle.fold_factors.proofs.SumLengths.{sums_over, sums_within}
 use mathlib.Core.Path.{sym}
 use native.Mathlib.Omega.{arith}
 use borrow.Author.Tests.{lt-ltb, le-ltb}
-use borrow.Author.Rules.{rules}
 use Rattle.fold_factors.proofs.are_sums.Goals as goal
 
 pub returns-then-kind-gt-SUM_CHAIN : goal.returns-then-kind-gt-SUM_CHAIN

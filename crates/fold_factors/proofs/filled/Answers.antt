@@ -3,7 +3,6 @@ use mathlib.Core.Path.{ap₂, ◌∙◌}
 use Prim.Native.Nat.{◌+◌}
 use lib.ListN.{take}
 use Rattle.fold_rows.specs.Standing.{filled_with_ones}
-use borrow.Author.Rules.{rules}
 use Rattle.fold_factors.proofs.filled.Goals as goal
 
 pub returns : goal.returns

@@ -2,7 +2,6 @@
 use mathlib.Core.Path.{sym, ap, ap₂, ◌∙◌}
 use mathlib.Core.Bool.{◌||◌}
 use Rattle.fold_operands.proofs.OperandLaws.{constant_at}
-use borrow.Author.Rules.{rules}
 use Rattle.fold_factors.proofs.has_zero.Goals as goal
 
 pub returns-then-is_constant : goal.returns-then-is_constant

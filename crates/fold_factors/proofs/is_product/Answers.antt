@@ -1,7 +1,6 @@
 -- `is_product` tests the kind of a row.
 use mathlib.Core.Path.{sym, ◌∙◌}
 use borrow.Author.Tests.{eq-eqb, ne_eqb}
-use borrow.Author.Rules.{rules}
 use Rattle.fold_factors.proofs.is_product.Goals as goal
 
 pub returns-then-k-eq-CONSTANT : goal.returns-then-k-eq-CONSTANT

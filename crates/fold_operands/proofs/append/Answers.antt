@@ -2,7 +2,6 @@
 use mathlib.Core.Path.{ap, ◌∙◌}
 use mathlib.Core.List.{[], ◌∷◌, ◌++◌}
 use Rattle.fold_rows.specs.Standing.{with_row}
-use borrow.Author.Rules.{rules}
 use Rattle.fold_operands.proofs.append.Goals as goal
 
 pub returns : goal.returns

@@ -4,7 +4,6 @@ use lib.Dec.{eqb}
 use borrow.Author.Tests.{eq-eqb, ne_eqb}
 use Rattle.plan.specs.Row.{kind}
 use Rattle.plan.specs.Plan.{row}
-use borrow.Author.Rules.{rules}
 use Rattle.fold_operands.proofs.is_constant.Goals as goal
 
 pub returns-then-kind-ne-CONSTANT : goal.returns-then-kind-ne-CONSTANT

@@ -1,6 +1,5 @@
 -- `put_constant` writes the row of a constant.
 use Rattle.fold_operands.proofs.Leaving.{constant-put}
-use borrow.Author.Rules.{rules}
 use Rattle.fold_operands.proofs.put_constant.Goals as goal
 
 pub returns : goal.returns

@@ -1,13 +1,9 @@
-use mathlib.Core.Path.{◌≡◌, ap, ◌∙◌}
-use Prim.Native.Nat.{◌-◌, ◌≤◌}
+use mathlib.Core.Path.{ap, ◌∙◌}
 use native.Mathlib.Omega.{arith}
-use lib.ListN.{take}
-use Rattle.chain.specs.Chain as Chain
 use Rattle.chain.proofs.Rows.{row_store, array_filled}
 use Rattle.plan.specs.Measures.{element_count}
 use Rattle.plan.specs.Row.{elements}
 use Rattle.fold_rows.proofs.RowWords.{element_at, length-elements}
-use borrow.Author.Rules.{rules}
 use Rattle.fold_rows.proofs.elements.Goals as goal
 
 pub loop-j-init : goal.loop-j-init

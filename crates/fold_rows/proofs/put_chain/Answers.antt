@@ -1,7 +1,6 @@
 -- `put_chain` writes the row of a chain or a constant.
 use mathlib.Core.Path.{ap, ◌∙◌}
 use mathlib.Core.List.{[], ◌∷◌, ◌++◌}
-use borrow.Author.Rules.{rules}
 use Rattle.fold_rows.specs.Standing.{with_row}
 use Rattle.fold_rows.proofs.put_chain.Goals as goal
 

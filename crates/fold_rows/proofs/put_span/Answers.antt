@@ -3,7 +3,6 @@ use mathlib.Core.Path.{ap}
 use Prim.Native.Nat.{◌+◌}
 use native.Mathlib.Omega.{arith}
 use lib.ListN.{length-set}
-use borrow.Author.Rules.{rules}
 use Rattle.plan.specs.Measures.{span_start}
 use Rattle.fold_rows.proofs.Stood.{span_stored}
 use Rattle.fold_rows.proofs.put_span.Goals as goal

@@ -1,7 +1,6 @@
 -- `pushed` adds a digit: the number is over already or goes over now, or it fits.
 use native.Mathlib.Omega.{arith}
 use Rattle.formula_scan.proofs.Numerals.{pushed_past, pushed_fits}
-use borrow.Author.Rules.{rules}
 use Rattle.formula_digits.proofs.pushed.Goals as goal
 
 pub returns-then-digit-value : goal.returns-then-digit-value

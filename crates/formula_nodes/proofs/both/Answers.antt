@@ -1,6 +1,5 @@
 -- `both` joins what is found of two operands.
 use mathlib.Core.Path.{ap}
-use borrow.Author.Rules.{rules}
 use Rattle.formula_scan.specs.Readers.{finding}
 use Rattle.formula_nodes.proofs.both.Goals as goal
 

@@ -2,15 +2,13 @@
 use mathlib.Core.Path.{◌∙◌, ap}
 use native.Mathlib.Omega.{arith}
 use borrow.Author.Tests.{eq-eqb, ne_eqb}
-use borrow.Author.Rules.{rules}
 use Rattle.formula_scan.specs.declared.Found.{Found}
 use Rattle.formula.specs.Tree.{span}
 use Rattle.formula_scan.specs.Readers.{with_node, put}
-use Rattle.formula_scan.proofs.Readings.{odd_product}
 use Rattle.formula_nodes.proofs.joined_product.Goals as goal
 
 -- GONE overflow-mul-odd
--- 
+--
 --     let start = c.before.before.before.before.before in
 --     record { fits = omega (arith, odd_product start.args.left.odd start.args.right.odd start.requires.1.0 start.requires.1.1) }
 

@@ -2,7 +2,6 @@
 use mathlib.Core.Path.{◌∙◌, ap, ap₂}
 use native.Mathlib.Omega.{arith}
 use borrow.Author.Tests.{eq-eqb, ne_eqb}
-use borrow.Author.Rules.{rules}
 use Rattle.formula_scan.specs.declared.Found.{Found}
 use Rattle.formula.specs.Tree.{span}
 use Rattle.formula_scan.specs.Readers.{with_node, put}

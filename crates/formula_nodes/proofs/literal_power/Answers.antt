@@ -1,7 +1,6 @@
 -- `literal_power` notes a literal power.
 use mathlib.Core.Path.{◌∙◌, ap, ap₂}
 use Prim.Native.Nat.{◌+◌, min}
-use borrow.Author.Rules.{rules}
 use Rattle.formula_scan.specs.Readers.{finding}
 use Rattle.formula_nodes.proofs.literal_power.Goals as goal
 

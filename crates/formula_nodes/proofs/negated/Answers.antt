@@ -1,12 +1,10 @@
 use mathlib.Core.Path.{◌≡◌, ◌∙◌, ap, refl, sym}
-use Prim.Native.Nat.{◌+◌, ◌-◌, ◌≤◌}
+use Prim.Native.Nat.{◌+◌, ◌-◌}
 use native.Mathlib.Omega.{arith}
 use native.Mathlib.Nat.{sub_self}
-use lib.ListN.{length}
 use Rattle.formula_scan.specs.declared.Found.{Found}
 use Rattle.formula_scan.proofs.Readings.{negated_starts, negated_goes_on, negated-done, minus-put}
-use Rattle.formula_scan.specs.Readers.{wrote_minus, finding}
-use borrow.Author.Rules.{rules}
+use Rattle.formula_scan.specs.Readers.{wrote_minus}
 use Rattle.formula_nodes.proofs.negated.Goals as goal
 
 pub loop-place-init : goal.loop-place-init
@@ -17,7 +15,7 @@ pub noted-more-requires : goal.noted-more-requires
 noted-more-requires c = let so : c.loop-place.found.nodes ≡ c.args.power.nodes + ((c.args.first) - (c.loop-place.place)) = ap (λ (f : Found). f.nodes) c.loop-place.invariant.2 in omega (arith, c.requires.first_bound, c.loop-place.invariant.1)
 
 pub loop-place-preserved : goal.loop-place-preserved
-loop-place-preserved c = (omega arith, omega arith, negated_goes_on (c.args.power) (c.loop-place.found) (c.noted-more.result) ((c.args.first) - (c.loop-place.place)) _ (omega (arith, c.loop-place.invariant.1, (c.loop-place-test.true))) c.loop-place.invariant.2 c.noted-more.ensures.value, minus-put (c.args.power) (c.loop-place.found) (c.args.first) (c.loop-place.place) _ _ _ c.loop-place.invariant.1 (omega (arith, (c.loop-place-test.true))) c.loop-place.invariant.2 c.loop-place.invariant.3 c.noted-more.ensures.tree_after, c.noted-more.auto.0 ∙ c.loop-place.invariant.4)
+loop-place-preserved c = (omega arith, omega arith, negated_goes_on (c.args.power) (c.loop-place.found) (c.noted-more.result) ((c.args.first) - (c.loop-place.place)) _ (omega (arith, c.loop-place.invariant.1, (c.loop-place-test.true))) c.loop-place.invariant.2 c.noted-more.ensures.value, minus-put (c.args.power) (c.loop-place.found) (c.args.first) (c.loop-place.place) _ _ _ c.loop-place.invariant.1 (omega (arith, (c.loop-place-test.true))) c.loop-place.invariant.2 c.loop-place.invariant.3 c.noted-more.ensures.tree_after, c.noted-more.auto.tree ∙ c.loop-place.invariant.4)
 
 pub shape_of-tree : goal.shape_of-tree
 shape_of-tree c = c.loop-place.invariant.4

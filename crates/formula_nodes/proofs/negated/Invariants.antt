@@ -1,13 +1,8 @@
 -- `negated` puts a node for each minus sign. Invariant: those from `place` on are put and counted.
-use mathlib.Core.Path.{◌≡◌, ◌∙◌, ap, refl, sym}
+use mathlib.Core.Path.{◌≡◌}
 use Prim.Native.Nat.{◌+◌, ◌-◌, ◌≤◌}
-use native.Mathlib.Omega.{arith}
-use native.Mathlib.Nat.{sub_self}
 use lib.ListN.{length}
-use Rattle.formula_scan.specs.declared.Found.{Found}
-use Rattle.formula_scan.proofs.Readings.{negated_starts, negated_goes_on, negated-done, minus-put}
 use Rattle.formula_scan.specs.Readers.{wrote_minus, finding}
-use borrow.Author.Rules.{rules}
 use Rattle.formula_nodes.proofs.negated.Given as goal
 
 abbrev pub invariant-loop-place : goal.invariant-loop-place

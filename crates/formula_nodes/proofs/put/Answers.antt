@@ -4,7 +4,6 @@ use native.Mathlib.Omega.{arith}
 use lib.ListN.{length-set}
 use Rattle.formula.specs.Tree.{span}
 use Rattle.formula_scan.proofs.Written.{put-past, put_nowhere, put-plain, put-spanned}
-use borrow.Author.Rules.{rules}
 use Rattle.formula_nodes.proofs.put.Goals as goal
 
 pub returns-then-n-ge-MOST_NODES : goal.returns-then-n-ge-MOST_NODES

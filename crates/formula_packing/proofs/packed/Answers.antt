@@ -1,7 +1,6 @@
 -- `packed` puts the fields one above the other, and the word gives them back.
 use native.Mathlib.Omega.{arith}
 use Rattle.formula_scan.proofs.Packing.{unpacked_packed}
-use borrow.Author.Rules.{rules}
 use Rattle.formula_packing.proofs.packed.Goals as goal
 
 pub returns : goal.returns

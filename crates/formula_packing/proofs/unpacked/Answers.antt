@@ -1,6 +1,5 @@
 -- `unpacked` takes each field from its digits.
 use mathlib.Core.Path.{refl}
-use borrow.Author.Rules.{rules}
 use Rattle.formula_packing.proofs.unpacked.Goals as goal
 
 pub returns : goal.returns

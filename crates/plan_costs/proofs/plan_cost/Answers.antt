@@ -1,23 +1,26 @@
 use Rattle.plan.proofs.SoundLaws.{sound-count, row_facts}
 use mathlib.Core.Path.{◌≡◌, refl, ap, ap₂, ◌∙◌}
-use Prim.Native.Nat.{◌+◌, ◌*◌, ◌-◌, ◌≤◌}
+use Prim.Native.Nat.{◌+◌}
 use native.Mathlib.Omega.{arith}
-use borrow.Author.Rules.{rules}
-use Rattle.plan.specs.Measures.{most_rows}
 use Rattle.plan.specs.Plan.{row_count, rows_from, first_rows, cost_of}
 use Rattle.plan.specs.Row.{row_cost}
 use Rattle.plan.proofs.RowLaws.{cost-next}
 use Rattle.plan_costs.proofs.plan_cost.Goals as goal
-
--- GONE overflow-add-total
---  omega (arith, c.row-cost.ensures, (row_facts c.before.before.before.before.before.before.args.plan.now (c.before.before.before.loop.r) (c.before.before.before.before.before.before.requires.0) (c.before.before.before.before.before.before.requires.1) (omega arith) c.before.row.ensures.0).cost)
 
 pub loop-r-init : goal.loop-r-init
 unfolding rows_from cost_of
 loop-r-init c = (omega arith, omega arith, refl, (sound-count c.args.plan.now c.requires.plan_value).1)
 
 pub row_cost-total-requires : goal.row_cost-total-requires
-row_cost-total-requires c = let facts = row_facts c.args.plan.now (c.loop-r.r) (c.requires.plan_length_in_bounds) (c.requires.plan_value) (omega arith) c.row.ensures.result_value in (facts.words, (facts.known, facts.exponent))
+row_cost-total-requires c = let facts = row_facts c.args.plan.now (c.loop-r.r) (c.requires.plan_length_in_bounds) (c.requires.plan_value) (omega arith) c.row.ensures.result_value in record { row_len = facts.words; row_bound = facts.known; bound = facts.exponent }
+
+pub overflow_add-total : goal.overflow_add-total
+overflow_add-total c =
+    omega (
+      arith,
+      c.row_cost-total.ensures,
+      (row_facts c.args.plan.now c.loop-r.r c.requires.plan_length_in_bounds c.requires.plan_value (omega arith) c.row.ensures.result_value).cost,
+    )
 
 pub loop-r-preserved : goal.loop-r-preserved
 loop-r-preserved c = let plan = c.args.plan.now in (omega arith, omega (arith, c.row_cost-total.ensures, (row_facts plan (c.loop-r.r) (c.requires.plan_length_in_bounds) (c.requires.plan_value) (omega arith) c.row.ensures.result_value).cost), ap₂ ◌+◌ c.loop-r.invariant.2 (c.row_cost-total.ensures ∙ ap (λ x. row_cost x) c.row.ensures.result_value) ∙ cost-next (c.loop-r.r) plan, omega arith)

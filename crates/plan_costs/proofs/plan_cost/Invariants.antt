@@ -1,13 +1,8 @@
 -- `plan_cost` adds the rows' costs. Invariant: the cost of the rows passed, at most 128 each.
-use Rattle.plan.proofs.SoundLaws.{sound-count, row_facts}
-use mathlib.Core.Path.{◌≡◌, refl, ap, ap₂, ◌∙◌}
-use Prim.Native.Nat.{◌+◌, ◌*◌, ◌-◌, ◌≤◌}
-use native.Mathlib.Omega.{arith}
-use borrow.Author.Rules.{rules}
+use mathlib.Core.Path.{◌≡◌}
+use Prim.Native.Nat.{◌*◌, ◌-◌, ◌≤◌}
 use Rattle.plan.specs.Measures.{most_rows}
-use Rattle.plan.specs.Plan.{row_count, rows_from, first_rows, cost_of}
-use Rattle.plan.specs.Row.{row_cost}
-use Rattle.plan.proofs.RowLaws.{cost-next}
+use Rattle.plan.specs.Plan.{first_rows, cost_of}
 use Rattle.plan_costs.proofs.plan_cost.Given as goal
 
 abbrev pub invariant-loop-r : goal.invariant-loop-r

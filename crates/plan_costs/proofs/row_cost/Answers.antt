@@ -3,12 +3,8 @@ use mathlib.Core.Path.{sym, ap, ◌∙◌}
 use native.Mathlib.Omega.{arith}
 use lib.ListN.{get_or}
 use borrow.Author.Tests.{eq-eqb, ne_eqb}
-use borrow.Author.Rules.{rules}
 use Rattle.plan.specs.declared.Kind.{Kind}
 use Rattle.plan_costs.proofs.row_cost.Goals as goal
-
--- GONE overflow-sub-result
---  omega (arith, c.before.before.before.before.before.before.requires.1.1 c.before.if2.true)
 
 pub returns-then-is_chain : goal.returns-then-is_chain
 returns-then-is_chain c = rw (sym c.is_chain.ensures ∙ c.if-is_chain.true)

@@ -1,10 +1,8 @@
 -- `root_value` works out row after row. Invariant: the values of the rows passed stand in front.
-use Rattle.plan.proofs.SoundLaws.{sound-count, row_facts}
-use Rattle.std.proofs.Common.{◌≡◌, ◌-◌, ◌≤◌, [], length, take, refl, ap, ◌∙◌, arith, length-set, rules}
+use Rattle.std.proofs.Common.{◌≡◌, ◌-◌, ◌≤◌, [], length, take}
 use Rattle.plan.specs.Measures.{most_rows}
-use Rattle.plan.specs.Plan.{rows_from, first_rows}
-use Rattle.plan.specs.Points.{row_value, values_from}
-use Rattle.plan.proofs.Later.{values_store, root_stored}
+use Rattle.plan.specs.Plan.{first_rows}
+use Rattle.plan.specs.Points.{values_from}
 use Rattle.plan_points.proofs.root_value.Given as goal
 
 abbrev pub invariant-loop-r : goal.invariant-loop-r

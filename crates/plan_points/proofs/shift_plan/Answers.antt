@@ -1,5 +1,4 @@
-use Rattle.std.proofs.Common.{◌≡◌, ◌+◌, ◌-◌, ◌≤◌, true, length, sym, refl, ap, ◌∙◌, subst, arith, rules}
-use Rattle.plan.specs.Measures.{most_rows}
+use Rattle.std.proofs.Common.{◌≡◌, ◌+◌, length, refl, ap, ◌∙◌, arith}
 use Rattle.plan.specs.Plan.{row_count}
 use Rattle.plan.proofs.SoundLaws.{sound-count, row_facts}
 use Rattle.plan.proofs.Keeping.{shifted_to, none-shifted, all-shifted, length_to, waiting, step-put}
@@ -9,7 +8,7 @@ pub loop-r-init : goal.loop-r-init
 loop-r-init c = (omega arith, refl, none-shifted 64 c.args.plan.now, (sound-count c.args.plan.now (c.requires.plan_value)).1)
 
 pub shift_row-requires : goal.shift_row-requires
-shift_row-requires c = let facts = row_facts c.args.plan.now (c.loop-r.r) (c.requires.plan_length_in_bounds) (c.requires.plan_value) (omega arith) (waiting 64 (c.loop-r.r) c.args.plan.now c.loop-r.invariant.2 (c.start-at.ensures)) in record { row_len = facts.words; row_bound = facts.a-few; row_bound_2 = facts.chain }
+shift_row-requires c = let facts = row_facts c.args.plan.now (c.loop-r.r) (c.requires.plan_length_in_bounds) (c.requires.plan_value) (omega arith) (waiting 64 (c.loop-r.r) c.args.plan.now c.loop-r.invariant.2 (c.start-at.ensures)) in record { row_len = facts.words; row_bound = facts.a_few; row_bound_2 = facts.chain }
 
 pub loop-r-preserved : goal.loop-r-preserved
 loop-r-preserved c = let next = step-put 64 (c.loop-r.r) c.args.plan.now c.loop-r.invariant.2 (c.start-at.ensures) (c.shift_row.ensures) in (omega arith, ap length next ∙ length_to 64 ((c.loop-r.r) + 1) c.args.plan.now, next, omega arith)

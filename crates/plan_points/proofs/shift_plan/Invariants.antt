@@ -1,9 +1,7 @@
 -- `shift_plan` shifts row after row. Invariant: the rows passed are shifted, the others wait.
-use Rattle.std.proofs.Common.{◌≡◌, ◌+◌, ◌-◌, ◌≤◌, true, length, sym, refl, ap, ◌∙◌, subst, arith, rules}
+use Rattle.std.proofs.Common.{◌≡◌, ◌-◌, ◌≤◌, length}
 use Rattle.plan.specs.Measures.{most_rows}
-use Rattle.plan.specs.Plan.{row_count}
-use Rattle.plan.proofs.SoundLaws.{sound-count, row_facts}
-use Rattle.plan.proofs.Keeping.{shifted_to, none-shifted, all-shifted, length_to, waiting, step-put}
+use Rattle.plan.proofs.Keeping.{shifted_to}
 use Rattle.plan_points.proofs.shift_plan.Given as goal
 
 abbrev pub invariant-loop-r : goal.invariant-loop-r

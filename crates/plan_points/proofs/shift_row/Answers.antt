@@ -1,14 +1,8 @@
 -- `shift_row` shifts the elements that a chain uses; other rows stay.
-use Rattle.std.proofs.Common.{get_or, sym, ap, arith, rules, ne_eqb}
+use Rattle.std.proofs.Common.{get_or, sym, ap, ne_eqb}
 use Rattle.plan.specs.Row.{is_chain}
 use Rattle.plan.proofs.Keeping.{sum-put, product-put, shifted_other}
 use Rattle.plan_points.proofs.shift_row.Goals as goal
-
--- GONE slice-bounds-shift-part-end
---  omega (arith, c.before.before.before.before.requires.1.1 (ap (λ k. is_chain k) (c.if1.true)))
-
--- GONE slice-bounds-shift-part-end-2
---  omega (arith, c.before.before.before.before.before.requires.1.1 (ap (λ k. is_chain k) (c.if2.true)))
 
 pub returns-then-kind-eq-SUM_CHAIN : goal.returns-then-kind-eq-SUM_CHAIN
 returns-then-kind-eq-SUM_CHAIN c =

@@ -2,7 +2,6 @@
 use mathlib.Core.Path.{sym, ◌∙◌, ap}
 use native.Mathlib.Omega.{arith}
 use borrow.Author.Tests.{lt-ltb, le-leb, le-ltb}
-use borrow.Author.Rules.{rules}
 use Rattle.plan.specs.Row.{operand_count}
 use Rattle.plan.specs.declared.Kind.{Kind}
 use Rattle.plan_row_checks.proofs.a_is_sound.Goals as goal

@@ -1,13 +1,8 @@
 -- `all_zero` looks at each word. Invariant: the words passed are 0, so the rest decides.
-use mathlib.Core.Path.{◌≡◌, refl, sym, ap, ◌∙◌}
+use mathlib.Core.Path.{◌≡◌}
 use Prim.Native.Nat.{◌-◌, ◌≤◌}
-use native.Mathlib.Omega.{arith}
-use native.Mathlib.Numerals.{add-one}
-use lib.ListN.{length, get_or, drop, drop_of_length-le}
-use borrow.Author.Tests.{eq-eqb, ne_eqb}
-use borrow.Author.Rules.{rules}
+use lib.ListN.{length, drop}
 use Rattle.plan.specs.Row.{all_zero}
-use Rattle.plan.proofs.SoundLaws.{all-zero-next}
 use Rattle.plan_row_checks.proofs.all_zero.Given as goal
 
 abbrev pub invariant-loop-i : goal.invariant-loop-i

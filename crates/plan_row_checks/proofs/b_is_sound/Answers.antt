@@ -1,7 +1,6 @@
 -- `b_is_sound` judges the column b.
 use mathlib.Core.Path.{sym, ◌∙◌, ap}
 use borrow.Author.Tests.{eq-eqb, ne_eqb, le-leb, lt-leb}
-use borrow.Author.Rules.{rules}
 use Rattle.plan.specs.Row.{operand_count}
 use Rattle.plan.specs.declared.Kind.{Kind}
 use Rattle.plan_row_checks.proofs.b_is_sound.Goals as goal

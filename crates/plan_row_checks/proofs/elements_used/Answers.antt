@@ -1,7 +1,6 @@
 -- `elements_used` counts the elements that a row of its kind has.
 use mathlib.Core.Path.{sym, ◌∙◌}
 use borrow.Author.Tests.{eq-eqb, ne_eqb}
-use borrow.Author.Rules.{rules}
 use Rattle.plan_row_checks.proofs.elements_used.Goals as goal
 
 pub returns-then-kind-eq-CONSTANT : goal.returns-then-kind-eq-CONSTANT

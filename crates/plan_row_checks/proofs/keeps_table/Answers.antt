@@ -2,56 +2,11 @@
 use mathlib.Core.Path.{sym, ap, ◌∙◌}
 use native.Mathlib.Omega.{arith}
 use lib.ListN.{get_or, drop}
-use borrow.Author.Tests.{le-ltb, lt-ltb, not-true, not-false}
-use borrow.Author.Rules.{rules}
+use borrow.Author.Tests.{le-ltb, lt-ltb}
 use Rattle.plan.specs.Row.{all_zero, elements}
 use Rattle.plan.proofs.RowLaws.{elements-past}
-use Rattle.plan.proofs.SoundLaws.{a_small, used_most}
+use Rattle.plan.proofs.SoundLaws.{a_small}
 use Rattle.plan_row_checks.proofs.keeps_table.Goals as goal
-
--- GONE overflow-add-unused
--- 
---     let row = c.before.before.before.before.before.before.before.before.before.before.args.row.now in
---     let r = c.before.before.before.before.before.before.before.before.before.before.args.r in
---     omega (
---       arith,
---       c.elements-used.ensures,
---       used_most r (get_or row 0 0) (get_or row 1 0)
---           (sym c.before.before.before.before.before.a-is-sound.ensures ∙ not-false _ c.before.before.before.before.if2.false),
---     )
-
--- GONE overflow-mul-all-zero
--- 
---     let row = c.before.before.before.before.before.before.before.before.before.before.args.row.now in
---     let r = c.before.before.before.before.before.before.before.before.before.before.args.r in
---     omega (
---       arith,
---       c.elements-used.ensures,
---       used_most r (get_or row 0 0) (get_or row 1 0)
---           (sym c.before.before.before.before.before.a-is-sound.ensures ∙ not-false _ c.before.before.before.before.if2.false),
---     )
-
--- GONE overflow-sub-all-zero
--- 
---     let row = c.before.before.before.before.before.before.before.before.before.before.args.row.now in
---     let r = c.before.before.before.before.before.before.before.before.before.before.args.r in
---     omega (
---       arith,
---       c.elements-used.ensures,
---       used_most r (get_or row 0 0) (get_or row 1 0)
---           (sym c.before.before.before.before.before.a-is-sound.ensures ∙ not-false _ c.before.before.before.before.if2.false),
---     )
-
--- GONE slice-bounds-all-zero-start
--- 
---     let row = c.before.before.before.before.before.before.before.before.before.before.args.row.now in
---     let r = c.before.before.before.before.before.before.before.before.before.before.args.r in
---     omega (
---       arith,
---       c.elements-used.ensures,
---       used_most r (get_or row 0 0) (get_or row 1 0)
---           (sym c.before.before.before.before.before.a-is-sound.ensures ∙ not-false _ c.before.before.before.before.if2.false),
---     )
 
 pub returns-then-kind-gt-RAISE : goal.returns-then-kind-gt-RAISE
 returns-then-kind-gt-RAISE c = rw (le-ltb (get_or c.args.row.now 0 0) 9 (omega arith))
@@ -59,16 +14,15 @@ returns-then-kind-gt-RAISE c = rw (le-ltb (get_or c.args.row.now 0 0) 9 (omega a
 pub returns-then-not-a_is_sound : goal.returns-then-not-a_is_sound
 returns-then-not-a_is_sound c =
     let row = c.args.row.now in
-    rw (lt-ltb (get_or row 0 0) 9 (omega arith), sym c.a_is_sound.ensures ∙ not-true _ c.if-not-a_is_sound.true)
+    rw (lt-ltb (get_or row 0 0) 9 (omega arith), sym c.a_is_sound.ensures ∙ c.if-not-a_is_sound.true)
 
 pub returns-then-not-b_is_sound : goal.returns-then-not-b_is_sound
 returns-then-not-b_is_sound c =
     let row = c.args.row.now in
     rw (
       lt-ltb (get_or row 0 0) 9 (omega arith),
-      sym c.a_is_sound.ensures ∙ not-false _
-          c.if-not-a_is_sound.false,
-      sym c.b_is_sound.ensures ∙ not-true _ c.if-not-b_is_sound.true,
+      sym c.a_is_sound.ensures ∙ c.if-not-a_is_sound.false,
+      sym c.b_is_sound.ensures ∙ c.if-not-b_is_sound.true,
     )
 
 pub elements_used-unused-requires : goal.elements_used-unused-requires
@@ -78,7 +32,7 @@ elements_used-unused-requires c =
     omega (
       arith,
       a_small r (get_or row 0 0) (get_or row 1 0) (omega arith)
-          (sym c.a_is_sound.ensures ∙ not-false _ c.if-not-a_is_sound.false),
+          (sym c.a_is_sound.ensures ∙ c.if-not-a_is_sound.false),
     )
 
 pub returns : goal.returns
@@ -86,9 +40,7 @@ returns c =
     let row = c.args.row.now in
     rw (
       lt-ltb (get_or row 0 0) 9 (omega arith),
-      sym c.a_is_sound.ensures ∙ not-false _
-          c.if-not-a_is_sound.false,
-      sym c.b_is_sound.ensures ∙ not-false _
-          c.if-not-b_is_sound.false,
+      sym c.a_is_sound.ensures ∙ c.if-not-a_is_sound.false,
+      sym c.b_is_sound.ensures ∙ c.if-not-b_is_sound.false,
     ) (c.all_zero.ensures ∙ ap all_zero (elements-past row c.elements_used-unused.result)
     ∙ ap (λ n. all_zero (drop n (elements row))) c.elements_used-unused.ensures)

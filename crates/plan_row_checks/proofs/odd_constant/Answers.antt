@@ -1,7 +1,6 @@
 -- `odd_constant` judges the base of a raise.
 use lib.ListN.{get_or}
 use borrow.Author.Tests.{eq-eqb, ne_eqb}
-use borrow.Author.Rules.{rules}
 use Rattle.plan_row_checks.proofs.odd_constant.Goals as goal
 
 pub returns-then-row-ne-CONSTANT : goal.returns-then-row-ne-CONSTANT

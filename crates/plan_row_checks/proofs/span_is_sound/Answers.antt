@@ -1,7 +1,6 @@
 -- `span_is_sound` judges the first byte against the end byte, then the end byte.
 use native.Mathlib.Omega.{arith}
 use borrow.Author.Tests.{lt-ltb, le-ltb}
-use borrow.Author.Rules.{rules}
 use Rattle.plan.specs.Row.{first_byte, end_byte}
 use Rattle.plan_row_checks.proofs.span_is_sound.Goals as goal
 

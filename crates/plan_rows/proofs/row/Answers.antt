@@ -2,7 +2,6 @@
 use mathlib.Core.Path.{sym, ap, ◌∙◌}
 use Prim.Native.Nat.{◌+◌}
 use lib.ListN.{length}
-use borrow.Author.Rules.{rules}
 use Rattle.plan.specs.Measures.{row_length}
 use Rattle.plan.proofs.RowLaws.{part, row-part, length-row}
 use Rattle.plan_rows.proofs.row.Goals as goal

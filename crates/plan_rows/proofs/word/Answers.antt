@@ -2,7 +2,6 @@
 use mathlib.Core.Path.{sym, ap, ◌∙◌}
 use Prim.Native.Nat.{◌+◌}
 use lib.ListN.{get_or}
-use borrow.Author.Rules.{rules}
 use Rattle.plan.proofs.RowLaws.{word_at}
 use Rattle.plan_rows.proofs.word.Goals as goal
 

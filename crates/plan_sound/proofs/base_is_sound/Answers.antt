@@ -1,7 +1,6 @@
 -- `base_is_sound` judges the base of a raise, which is an earlier row, and lets other rows pass.
 use mathlib.Core.Path.{sym, ap, ◌∙◌}
 use native.Mathlib.Omega.{arith}
-use borrow.Author.Rules.{rules}
 use Rattle.plan.specs.Row.{odd_constant}
 use Rattle.plan.proofs.SoundLaws.{no_raise, base_earlier, raise-sound}
 use Rattle.plan_sound.proofs.base_is_sound.Goals as goal

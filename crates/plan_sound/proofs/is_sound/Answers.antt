@@ -1,9 +1,7 @@
 -- `is_sound` judges word 0, the rows that it counts, and the words after them.
 use mathlib.Core.Path.{sym, ap, ◌∙◌}
-use Prim.Native.Nat.{◌+◌, ◌*◌}
 use native.Mathlib.Omega.{arith}
-use borrow.Author.Tests.{le-leb, lt-leb, not-true, not-false}
-use borrow.Author.Rules.{rules}
+use borrow.Author.Tests.{le-leb, lt-leb}
 use Rattle.plan.specs.Measures.{plan_length, most_rows, row_start}
 use Rattle.plan.specs.Row.{all_zero}
 use Rattle.plan.specs.Plan.{row_count, sound}
@@ -25,7 +23,7 @@ unfolding sound
 returns-then-not-rows_are_sound c =
     let plan = c.args.plan.now in
     rw
-    (le-leb 1 (row_count plan) (omega arith), le-leb (row_count plan) most_rows (omega arith), sym c.rows_are_sound.ensures ∙ not-true _ c.if-not-rows_are_sound.true)
+    (le-leb 1 (row_count plan) (omega arith), le-leb (row_count plan) most_rows (omega arith), sym c.rows_are_sound.ensures ∙ c.if-not-rows_are_sound.true)
 
 pub returns : goal.returns
 unfolding sound
@@ -35,6 +33,6 @@ returns c =
       le-leb 1 (row_count plan) (omega arith),
       le-leb (row_count plan) most_rows (omega arith),
       sym c.rows_are_sound.ensures
-          ∙ not-false _ c.if-not-rows_are_sound.false,
+          ∙ c.if-not-rows_are_sound.false,
     ) (c.all_zero.ensures ∙ ap (λ at. all_zero (part at plan_length plan)) c.start-end.ensures
     ∙ ap all_zero (sym (slice-part (row_start (row_count plan)) plan_length plan)))

@@ -1,8 +1,6 @@
 -- `row_is_sound` judges row r: the table first, then the base of a raise, then the span.
 use mathlib.Core.Path.{sym, ap, ◌∙◌}
 use native.Mathlib.Omega.{arith}
-use borrow.Author.Tests.{not-true, not-false}
-use borrow.Author.Rules.{rules}
 use Rattle.plan.specs.Row.{keeps_table, sound_span}
 use Rattle.plan.proofs.SoundLaws.{table_broken, base_broken, span_left}
 use Rattle.plan_sound.proofs.row_is_sound.Goals as goal
@@ -14,20 +12,20 @@ pub returns-then-not-keeps_table : goal.returns-then-not-keeps_table
 returns-then-not-keeps_table c =
     let args = c.args in
     sym (table_broken args.plan.now args.r
-    (ap (λ x. keeps_table args.r x) (sym c.row-words.ensures.result_value) ∙ sym c.keeps_table.ensures ∙ not-true _ c.if-not-keeps_table.true))
+    (ap (λ x. keeps_table args.r x) (sym c.row-words.ensures.result_value) ∙ sym c.keeps_table.ensures ∙ c.if-not-keeps_table.true))
 
 pub base_is_sound-requires : goal.base_is_sound-requires
 base_is_sound-requires c = let args = c.args in
     let asked = c.requires in
-    let kept = ap (λ x. keeps_table args.r x) (sym c.row-words.ensures.result_value) ∙ sym c.keeps_table.ensures ∙ not-false _ c.if-not-keeps_table.false in record { plan_length_in_bounds = asked.plan_length_in_bounds; r_lt_most_rows = asked.r_lt_most_rows; r_value = kept }
+    let kept = ap (λ x. keeps_table args.r x) (sym c.row-words.ensures.result_value) ∙ sym c.keeps_table.ensures ∙ c.if-not-keeps_table.false in record { plan_length_in_bounds = asked.plan_length_in_bounds; r_lt_most_rows = asked.r_lt_most_rows; r_value = kept }
 
 pub returns-then-not-base_is_sound : goal.returns-then-not-base_is_sound
 returns-then-not-base_is_sound c =
     let args = c.args in
     sym (base_broken args.plan.now args.r
     (ap (λ x. keeps_table args.r x) (sym c.row-words.ensures.result_value)
-    ∙ sym c.keeps_table.ensures ∙ not-false _ c.if-not-keeps_table.false)
-    (sym c.base_is_sound.ensures ∙ not-true _ c.if-not-base_is_sound.true))
+    ∙ sym c.keeps_table.ensures ∙ c.if-not-keeps_table.false)
+    (sym c.base_is_sound.ensures ∙ c.if-not-base_is_sound.true))
 
 pub span_is_sound-requires : goal.span_is_sound-requires
 span_is_sound-requires c = c.row-words.ensures.result_len
@@ -38,5 +36,5 @@ returns c =
     c.span_is_sound.ensures ∙ ap (λ x. sound_span x) c.row-words.ensures.result_value
     ∙ sym (span_left args.plan.now args.r
     (ap (λ x. keeps_table args.r x) (sym c.row-words.ensures.result_value)
-    ∙ sym c.keeps_table.ensures ∙ not-false _ c.if-not-keeps_table.false)
-    (sym c.base_is_sound.ensures ∙ not-false _ c.if-not-base_is_sound.false))
+    ∙ sym c.keeps_table.ensures ∙ c.if-not-keeps_table.false)
+    (sym c.base_is_sound.ensures ∙ c.if-not-base_is_sound.false))

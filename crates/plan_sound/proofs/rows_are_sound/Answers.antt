@@ -1,10 +1,6 @@
 use mathlib.Core.Path.{◌≡◌, refl, sym, ap, ◌∙◌}
-use mathlib.Core.Bool.{true}
 use mathlib.Core.List.{[]}
-use Prim.Native.Nat.{◌-◌, ◌≤◌}
 use native.Mathlib.Omega.{arith}
-use borrow.Author.Tests.{not-true, not-false}
-use borrow.Author.Rules.{rules}
 use Rattle.plan.specs.Plan.{rows_from, first_rows, sound_from}
 use Rattle.plan.proofs.SoundLaws.{sound-next, sound-not}
 use Rattle.plan_sound.proofs.rows_are_sound.Goals as goal
@@ -18,13 +14,13 @@ returns-then-not-row_is_sound c =
     let plan = c.args.plan.now in
     let count = c.args.count in
     let turn = c.loop-r in
-    sym (sound-not plan turn.r count (omega arith) (sym c.row_is_sound.ensures ∙ not-true _ c.if-not-row_is_sound.true))
+    sym (sound-not plan turn.r count (omega arith) (sym c.row_is_sound.ensures ∙ c.if-not-row_is_sound.true))
 
 pub loop-r-preserved : goal.loop-r-preserved
 loop-r-preserved c =
     let plan = c.args.plan.now in
     let turn = c.loop-r in
-    (omega arith, sound-next plan turn.r turn.invariant.1 (sym c.row_is_sound.ensures ∙ not-false _ c.if-not-row_is_sound.false))
+    (omega arith, sound-next plan turn.r turn.invariant.1 (sym c.row_is_sound.ensures ∙ c.if-not-row_is_sound.false))
 
 pub returns : goal.returns
 returns c =

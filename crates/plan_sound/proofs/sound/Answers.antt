@@ -1,5 +1,4 @@
 -- `sound` answers the refusal alone.
-use borrow.Author.Rules.{rules}
 use Rattle.plan_sound.proofs.sound.Goals as goal
 
 pub returns : goal.returns

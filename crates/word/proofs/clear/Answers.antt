@@ -1,4 +1,4 @@
-use Rattle.std.proofs.Common.{◌≡◌, ◌-◌, ◌≤◌, ◌++◌, length, drop, set, replicate, refl, ap, ◌∙◌, append-nil, arith, length-set, drop_of_length-le, rules}
+use Rattle.std.proofs.Common.{◌≡◌, ◌++◌, length, set, replicate, refl, ap, ◌∙◌, append-nil, arith, length-set, drop_of_length-le}
 use borrow.Author.Fill.{fill_none, fill_more}
 use Rattle.word.proofs.clear.Goals as goal
 

@@ -1,6 +1,5 @@
 -- `clear` writes zeros. Invariant: the first i are 0, the others as they were.
-use Rattle.std.proofs.Common.{◌≡◌, ◌-◌, ◌≤◌, ◌++◌, length, drop, set, replicate, refl, ap, ◌∙◌, append-nil, arith, length-set, drop_of_length-le, rules}
-use borrow.Author.Fill.{fill_none, fill_more}
+use Rattle.std.proofs.Common.{◌≡◌, ◌-◌, ◌≤◌, ◌++◌, length, drop, replicate}
 use Rattle.word.proofs.clear.Given as goal
 
 abbrev pub invariant-loop-i : goal.invariant-loop-i

@@ -1,4 +1,4 @@
-use Rattle.std.proofs.Common.{◌≡◌, ◌*◌, ◌%◌, ◌^◌, ◌<◌, sym, ap, ◌∙◌, arith}
+use Rattle.std.proofs.Common.{◌%◌, ◌^◌, sym, ap, ◌∙◌, arith}
 use Rattle.word.proofs.Squaring.{turn_even, turn_odd, turns_done}
 use Rattle.word.proofs.power.Goals as goal
 use Rattle.word.proofs.power.Goals.{then-left-eq1, else-left-eq1}
@@ -8,10 +8,10 @@ loop-left-init c = (omega arith, ap (λ z. z % 2 ^ 64) (omega arith))
 
 pub loop-left-preserved : goal.loop-left-preserved
 loop-left-preserved c = elim c.if-left-eq1.branch [
-    then-left-eq1 w ↦
-        (omega arith, turn_odd (2 ^ 64) _ _ _ w.if-left-eq1.true (w.result-is ∙ w.times-result.ensures) c.times-square.ensures ∙ c.loop-left.invariant.1)
-    | else-left-eq1 w ↦
-        (omega arith, rw w.result-is (turn_even (2 ^ 64) _ _ _ w.if-left-eq1.false c.times-square.ensures ∙ c.loop-left.invariant.1))
+  | then-left-eq1 w ↦
+      (omega arith, turn_odd (2 ^ 64) _ _ _ w.if-left-eq1.true (w.result-is ∙ w.times-result.ensures) c.times-square.ensures ∙ c.loop-left.invariant.1)
+  | else-left-eq1 w ↦
+      (omega arith, rw w.result-is (turn_even (2 ^ 64) _ _ _ w.if-left-eq1.false c.times-square.ensures ∙ c.loop-left.invariant.1))
 ]
 
 pub returns : goal.returns

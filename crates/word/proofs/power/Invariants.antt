@@ -1,6 +1,5 @@
 -- `power` is the power modulo 2^64. Invariant: the product so far times the square to the rest of the exponent stays the same.
-use Rattle.std.proofs.Common.{◌≡◌, ◌*◌, ◌%◌, ◌^◌, ◌<◌, sym, ap, ◌∙◌, ⊎_elim, arith, rules}
-use Rattle.word.proofs.Squaring.{turn_even, turn_odd, turns_done}
+use Rattle.std.proofs.Common.{◌≡◌, ◌*◌, ◌%◌, ◌^◌, ◌<◌}
 use Rattle.word.proofs.power.Given as goal
 
 abbrev pub invariant-loop-left : goal.invariant-loop-left

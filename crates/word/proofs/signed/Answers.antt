@@ -1,6 +1,5 @@
 -- `signed` meets its contract: each half of the words is read as `signed` says, and the difference taken in the upper half fits.
-use Rattle.std.proofs.Common.{rules}
-use Rattle.word.proofs.SignedWords.{read_low, high_fits, read_high}
+use Rattle.word.proofs.SignedWords.{read_low, read_high}
 use Rattle.word.proofs.signed.Goals as goal
 
 -- GONE overflow-sub-result-2

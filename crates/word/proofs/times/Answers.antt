@@ -1,6 +1,6 @@
 -- `times` is the product modulo 2^64: the law of half words at 2^32.
-use Rattle.std.proofs.Common.{◌∙◌, arith, rules}
-use Rattle.word.proofs.HalfWords.{halves_fit, from_halves}
+use Rattle.std.proofs.Common.{◌∙◌}
+use Rattle.word.proofs.HalfWords.{from_halves}
 use Rattle.word.proofs.times.Goals as goal
 
 -- GONE overflow-mul-cross

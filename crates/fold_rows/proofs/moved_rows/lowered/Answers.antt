@@ -2,7 +2,6 @@
 use mathlib.Core.Path.{sym, ap, ◌∙◌}
 use mathlib.Core.Bool.{cond}
 use Prim.Native.Nat.{◌-◌}
-use borrow.Author.Rules.{rules}
 use Rattle.fold_rows.proofs.moved_rows.lowered.Goals as goal
 
 pub returns-then-named : goal.returns-then-named

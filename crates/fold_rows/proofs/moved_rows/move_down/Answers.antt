@@ -1,8 +1,6 @@
 use mathlib.Core.Path.{◌≡◌, refl, ap, ◌∙◌}
-use Prim.Native.Nat.{◌-◌, ◌≤◌}
+use Prim.Native.Nat.{◌-◌}
 use native.Mathlib.Omega.{arith}
-use lib.ListN.{length}
-use borrow.Author.Rules.{rules}
 use Rattle.fold_rows.specs.Standing.{moved_down}
 use Rattle.fold_rows.proofs.Moved.{moved_none, moved-next}
 use Rattle.fold_rows.proofs.moved_rows.move_down.Goals as goal
@@ -17,7 +15,7 @@ loop-r-preserved c =
     let turn = c.loop-r in (
       omega arith,
       omega arith,
-      omega (arith, c.move_row.auto.0, turn.invariant),
+      omega (arith, c.move_row.auto.plan, turn.invariant),
       moved-next first turn.r plan (omega arith)
           turn.invariant.3 c.move_row.ensures,
     )

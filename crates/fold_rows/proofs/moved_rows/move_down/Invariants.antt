@@ -1,11 +1,8 @@
 -- `move_down` moves row after row. Invariant: the rows passed are moved.
-use mathlib.Core.Path.{◌≡◌, refl, ap, ◌∙◌}
+use mathlib.Core.Path.{◌≡◌}
 use Prim.Native.Nat.{◌-◌, ◌≤◌}
-use native.Mathlib.Omega.{arith}
 use lib.ListN.{length}
-use borrow.Author.Rules.{rules}
 use Rattle.fold_rows.specs.Standing.{moved_down}
-use Rattle.fold_rows.proofs.Moved.{moved_none, moved-next}
 use Rattle.fold_rows.proofs.moved_rows.move_down.Given as goal
 
 abbrev pub invariant-loop-r : goal.invariant-loop-r

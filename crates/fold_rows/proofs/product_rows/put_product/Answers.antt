@@ -11,19 +11,19 @@ pub returns-then-elements-eq0 : goal.returns-then-elements-eq0
 returns-then-elements-eq0 c =
     let plan = c.args.plan.now in
     let r = c.args.r in
-    let t3 = c.args.t3 in
-    put-zero plan r t3 (search rules) c.if-elements-eq0.true c.zeros.ensures
+    let elements = c.args.elements in
+    put-zero plan r elements (search rules) c.if-elements-eq0.true c.zeros.ensures
     c.put_chain.ensures
 
 pub kept-requires : goal.kept-requires
 kept-requires c =
-    let t3 = c.args.t3 in
-    let long : length t3 ≡ 17 = search rules in
-    omega (arith, c.trimmed_length-last.ensures, length-trimmed 1 t3 16 (omega arith))
+    let elements = c.args.elements in
+    let long : length elements ≡ 17 = search rules in
+    omega (arith, c.trimmed_length-last.ensures, length-trimmed 1 elements 16 (omega arith))
 
 pub returns : goal.returns
 returns c =
     let args = c.args in
-    put-trimmed args.plan.now args.r args.t3 (search rules) c.if-elements-eq0.false
+    put-trimmed args.plan.now args.r args.elements (search rules) c.if-elements-eq0.false
     c.trimmed_length-last.ensures c.kept.ensures
     c.put_chain-2.ensures

@@ -1,8 +1,6 @@
-use mathlib.Core.Path.{◌≡◌}
-use Prim.Native.Nat.{◌-◌, ◌≤◌}
 use native.Mathlib.Omega.{arith}
 use borrow.Author.Rules.{rules}
-use Rattle.fold_rows.proofs.Ones.{ones_to, ones_none, ones_next, ones_all}
+use Rattle.fold_rows.proofs.Ones.{ones_none, ones_next, ones_all}
 use Rattle.fold_rows.proofs.product_rows.with_ones.Goals as goal
 
 pub loop-j-init : goal.loop-j-init

@@ -1,9 +1,7 @@
 -- `with_ones` writes 1 past the length. Invariant: the words past it up to j are 1.
 use mathlib.Core.Path.{◌≡◌}
 use Prim.Native.Nat.{◌-◌, ◌≤◌}
-use native.Mathlib.Omega.{arith}
-use borrow.Author.Rules.{rules}
-use Rattle.fold_rows.proofs.Ones.{ones_to, ones_none, ones_next, ones_all}
+use Rattle.fold_rows.proofs.Ones.{ones_to}
 use Rattle.fold_rows.proofs.product_rows.with_ones.Given as goal
 
 abbrev pub invariant-loop-j : goal.invariant-loop-j

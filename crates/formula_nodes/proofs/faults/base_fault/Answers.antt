@@ -1,7 +1,6 @@
 -- `base_fault` codes refusal 8.
 use native.Mathlib.Omega.{arith}
 use borrow.Author.Tests.{eq-eqb, ne_eqb}
-use borrow.Author.Rules.{rules}
 use Rattle.formula_nodes.proofs.faults.base_fault.Goals as goal
 
 pub returns-then-variable : goal.returns-then-variable

@@ -1,7 +1,6 @@
 -- `literal_fault` codes refusals 5 and 6 of a literal exponent.
 use native.Mathlib.Omega.{arith}
 use borrow.Author.Tests.{le-leb, lt-leb}
-use borrow.Author.Rules.{rules}
 use Rattle.formula_nodes.proofs.faults.literal_fault.Goals as goal
 
 pub returns-then-number : goal.returns-then-number

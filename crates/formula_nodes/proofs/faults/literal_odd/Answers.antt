@@ -1,6 +1,5 @@
 -- `literal_odd` is the parity of a literal power.
 use borrow.Author.Tests.{eq-eqb, ne_eqb}
-use borrow.Author.Rules.{rules}
 use Rattle.formula_nodes.proofs.faults.literal_odd.Goals as goal
 
 pub returns-then-number-eq0 : goal.returns-then-number-eq0

@@ -1,5 +1,4 @@
 -- `number_fault` codes refusal 5.
-use borrow.Author.Rules.{rules}
 use Rattle.formula_nodes.proofs.faults.number_fault.Goals as goal
 
 pub returns-then-number : goal.returns-then-number

@@ -1,6 +1,5 @@
 -- `facts` reads the table of row kinds.
 use mathlib.Core.Path.{refl}
-use borrow.Author.Rules.{rules}
 use Rattle.plan.specs.Row.{kind_facts}
 use Rattle.plan_rows.proofs.kinds.facts.Goals as goal
 

@@ -2,7 +2,6 @@
 use mathlib.Core.Path.{sym, ap}
 use native.Mathlib.Omega.{arith}
 use lib.ListN.{get_or-eq_default}
-use borrow.Author.Rules.{rules}
 use Rattle.plan.specs.declared.Kind.{Kind}
 use Rattle.plan.specs.Row.{costing, kind_table, kind_facts}
 use Rattle.plan_rows.proofs.kinds.operand_count.Goals as goal

@@ -1,5 +1,4 @@
 use mathlib.Core.Path.{◌≡◌, refl, ap, ◌∙◌}
-use mathlib.Core.Logic.{⊎_elim}
 use Prim.Native.Nat.{suc, ◌+◌, ◌-◌, ◌≤◌}
 use native.Mathlib.Omega.{arith}
 use lib.ListN.{length, take}
@@ -9,9 +8,8 @@ use Rattle.formula.specs.Refusals.{count}
 use Rattle.table.specs.Parts.{tab}
 use Rattle.table.proofs.PartsFound.{count-here, count_other}
 use Rattle.table_fields.proofs.fields.count_fields.Goals as goal
+use Rattle.table_fields.proofs.fields.count_fields.Goals.{then-line-i-eq9, else-line-i-eq9}
 
--- GONE overflow-add-fields
---  omega arith
 
 pub loop-i-init : goal.loop-i-init
 unfolding count
@@ -21,10 +19,10 @@ pub loop-i-preserved : goal.loop-i-preserved
 loop-i-preserved c =
     let line = c.args.line.now in
     let turn = c.loop-i in
-    ⊎_elim
-    (λ way. (omega arith, omega arith, omega (arith, count-here tab line turn.i (omega arith) way.0.taken)))
-    (λ way. (omega arith, omega arith, omega (arith, count_other tab line turn.i (omega arith) way.0.left)))
-    c.if-line-i-eq9.branch
+    elim c.if-line-i-eq9.branch [
+      then-line-i-eq9 w ↦ (omega arith, omega arith, omega (arith, count-here tab line turn.i (omega arith) w.if-line-i-eq9.true))
+    | else-line-i-eq9 w ↦ (omega arith, omega arith, omega (arith, count_other tab line turn.i (omega arith) w.if-line-i-eq9.false))
+    ]
 
 pub returns : goal.returns
 returns c = c.loop-i.invariant.2 ∙ ap (λ s. suc (count tab s)) (take_all c.loop-i.i c.args.line.now (omega arith))

@@ -6,10 +6,10 @@ use Rattle.table.specs.Parts.{tab, before}
 use Rattle.table.proofs.PartsFound.{found_inside, found_part}
 use Rattle.table_fields.proofs.fields.field.Goals as goal
 
--- GONE slice-bounds-result-end
--- 
---     let from = c.before.field-start in
---     omega (arith, c.find.ensures, found_inside tab c.before.before.before.args.line.now from.result from.ensures.0)
+pub slice_bounds-result-end : goal.slice_bounds-result-end
+slice_bounds-result-end c =
+    let from = c.field_start-from in
+    omega (arith, c.find-to.ensures, found_inside tab c.args.line.now from.result from.ensures.upper_bound)
 
 pub find-to-requires : goal.find-to-requires
 find-to-requires c = omega (arith, c.field_start-from.ensures.upper_bound)

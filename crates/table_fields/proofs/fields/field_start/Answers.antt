@@ -6,10 +6,10 @@ use Rattle.table.specs.Parts.{tab}
 use Rattle.table.proofs.PartsFound.{found_inside, BehindTabs, behind-none, behind-next, behind-all, behind-whole}
 use Rattle.table_fields.proofs.fields.field_start.Goals as goal
 
--- GONE overflow-add-at
--- 
---     let turn = c.before.before.before.loop in
---     omega (arith, found_inside tab c.before.before.before.before.before.args.line.now turn.at turn.invariant.1.inside)
+pub overflow_add-at : goal.overflow_add-at
+overflow_add-at c =
+    let turn = c.loop-i in
+    omega (arith, found_inside tab c.args.line.now turn.at turn.invariant.1.inside, c.find-end.ensures)
 
 pub loop-i-init : goal.loop-i-init
 loop-i-init c = (omega arith, behind-none c.args.line.now)

@@ -1,11 +1,18 @@
--- `find` searches to the end of the text.
-use mathlib.Core.Path.{◌∙◌, ap}
-use Prim.Native.Nat.{◌+◌}
-use borrow.Author.Rules.{rules}
-use Rattle.table_fields.proofs.Finding.{index_found}
+use Rattle.std.proofs.Common.{refl, arith}
+use Rattle.table_fields.proofs.Finding.{found_here, found_later, found_nowhere}
 use Rattle.table_fields.proofs.fields.find.Goals as goal
 
+pub loop-at-init : goal.loop-at-init
+loop-at-init c = record { inside = omega arith; same = refl }
+
 pub returns-then-text-at : goal.returns-then-text-at
-returns-then-text-at c =
-    let start = c.args in
-    c.UNKNOWN.find.ensures.0 ∙ ap (λ n. start.from + n) (index_found start.byte start.from start.text.now)
+returns-then-text-at c = omega (arith, c.loop-at.invariant.same, found_here c.args.byte c.args.text.now c.loop-at.at (omega arith) c.if-text-at.true)
+
+pub loop-at-preserved : goal.loop-at-preserved
+loop-at-preserved c = record {
+  inside = omega arith;
+  same = omega (arith, c.loop-at.invariant.same, found_later c.args.byte c.args.text.now c.loop-at.at (omega arith) c.if-text-at.false);
+}
+
+pub returns : goal.returns
+returns c = omega (arith, c.loop-at.invariant.same, found_nowhere c.args.byte c.args.text.now c.loop-at.at (omega arith))

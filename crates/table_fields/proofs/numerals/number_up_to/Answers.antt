@@ -1,8 +1,6 @@
 -- `number_up_to` reads the number that begins a field. It refuses a field that begins with none, more bytes behind it, and a number that is too large.
 use mathlib.Core.Path.{sym, ◌∙◌}
 use native.Mathlib.Omega.{arith}
-use borrow.Author.Tests.{not-true, not-false}
-use borrow.Author.Rules.{rules}
 use Rattle.formula_scan.proofs.Readings.{digit_test, no_digit_test}
 use Rattle.table_fields.proofs.FieldReading.{no_digit-first, more_behind, too_long, too_large, small_enough}
 use Rattle.table_fields.proofs.numerals.number_up_to.Goals as goal
@@ -13,12 +11,12 @@ returns-then-not-is_digit c =
     let first = c.byte_at in
     c.refused.ensures
     ∙ no_digit-first start.most start.field.now
-    (λ d. no_digit_test first.result (sym c.is_digit.ensures ∙ not-true _ c.if-not-is_digit.true) (rw first.ensures d))
+    (λ d. no_digit_test first.result (sym c.is_digit.ensures ∙ c.if-not-is_digit.true) (rw first.ensures d))
 
 pub read_number-number-requires : goal.read_number-number-requires
 read_number-number-requires c =
     let first = c.byte_at in
-    rw (← first.ensures) (digit_test first.result (sym c.is_digit.ensures ∙ not-false _ c.if-not-is_digit.false))
+    rw (← first.ensures) (digit_test first.result (sym c.is_digit.ensures ∙ c.if-not-is_digit.false))
 
 pub returns-then-number-field : goal.returns-then-number-field
 returns-then-number-field c =
