@@ -1,13 +1,13 @@
 -- Chains with alternating signs: twice is once over, zeros and so the trimmed length stay, and what a backward chain gives walking back the forward chain gives
 -- walking on. So the product of two backward chains is that of the forward ones, its signs alternated again.
-use Rattle.std.proofs.Common.{◌≡◌, ℕ, zero, suc, ◌+◌, ◌-◌, ◌*◌, ◌%◌, ◌^◌, ◌<◌, ◌≤◌, Bool, true, false, cond, eqb, ltb, List, [], ◌∷◌, length, get_or, take, sym, refl, ap, ◌∙◌, ap₂, le_of_suc-le-suc, not-suc-le-zero, one-mul, pow-suc, mul-zero, arith, pow_pos, ltb-false, eq-eqb, ne_eqb, eqb-true}
+use Rattle.std.proofs.Common.{◌≡◌, ℕ, zero, suc, ◌+◌, ◌-◌, ◌*◌, ◌%◌, ◌^◌, ◌<◌, ◌≤◌, Bool, true, false, cond, eqb, ltb, List, [], ◌∷◌, length, get_or, take, sym, refl, ap, ◌∙◌, ap₂, one-mul, pow-suc, mul-zero, arith, pow_pos, ltb-false, eq-eqb, ne_eqb, eqb-true}
 use native.Mathlib.Nat.{zero-mod, mod-mod, mod_self, pow-zero}
 use lib.ListN.{length-map}
 use Rattle.word.specs.Word as Word
 use Rattle.word.proofs.Modulo.{outward, mul_same}
 use Rattle.word.proofs.Ring as Ring
 use Rattle.chain.specs.declared.ChainAnswer.{ChainAnswer}
-use Rattle.chain.specs.Chain.{value, rest, words, shifted, value_at, with_last, without_trailing, trimmed, row}
+use Rattle.chain.specs.Chain.{rest, words, shifted, value_at, with_last, without_trailing, trimmed, row}
 use Rattle.chain.specs.SumChain.{sum_at}
 use Rattle.chain.specs.SumChain as SumChain
 use Rattle.chain.specs.BackwardChain.{inverse_shift}
@@ -16,10 +16,9 @@ use Rattle.chain.specs.Answer.{Outcome, refused, chain, answered, given, unless_
 use Rattle.chain.specs.BackwardAnswer.{backward_product_outcome}
 use Rattle.chain.proofs.Rows.{entry_words}
 use Rattle.chain.proofs.Trimming.{length-trimmed_some}
-use Rattle.chain.proofs.SumLaws.{sum-now, sum-next, value-words, value-product}
+use Rattle.chain.proofs.SumLaws.{sum-next, value-words, value-product}
 use Rattle.chain.proofs.Canonical.{same_trimmed}
-use Rattle.chain.proofs.Values as Values
-use Rattle.chain.proofs.Calls.{length-product, length-product_by, length-given}
+use Rattle.chain.proofs.Calls.{length-product, length-product_by}
 use Rattle.chain.proofs.Shifting.{length_shift}
 use Rattle.chain.proofs.Backward.{less, before-next, whole-product}
 use Rattle.chain.proofs.BackwardCalls.{trimmed-words, kept-words}

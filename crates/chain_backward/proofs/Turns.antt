@@ -1,6 +1,6 @@
 -- Conversion turn by turn: after j turns j words are those of the converted chain, and the rest is a chain still to be converted.
-use Rattle.std.proofs.Common.{◌≡◌, ℕ, zero, suc, ◌+◌, ◌-◌, ◌<◌, ◌≤◌, List, [], ◌∷◌, ◌++◌, length, take, drop, sym, refl, ap, ◌∙◌, ap₂, append-nil, le_of_suc-le-suc, not-suc-le-zero, add-one, arith, length-drop, drop_of_length-le, take_all}
-use Rattle.chain.specs.Chain.{meeting, shift_from_top}
+use Rattle.std.proofs.Common.{◌≡◌, ℕ, zero, suc, ◌+◌, ◌-◌, ◌≤◌, List, [], ◌∷◌, ◌++◌, length, take, drop, sym, refl, ap, ◌∙◌, ap₂, append-nil, le_of_suc-le-suc, not-suc-le-zero, add-one, arith, length-drop, drop_of_length-le, take_all}
+use Rattle.chain.specs.Chain.{shift_from_top}
 use Rattle.chain.specs.BackwardChain.{converted}
 use Rattle.chain.proofs.Shifting.{length-from_top}
 use Rattle.chain.proofs.Conversions.{convert-next, convert-none}

@@ -1,5 +1,7 @@
 // Tables that run backwards: a forward chain's inverse shift, the calls on backward chains, and conversion from and to them, each with its refusals.
 // A chain is an array of 17 words by value with its length. The work on arrays is in `chain_arrays`, the calls on forward chains in `chain_calls`.
+#![tactic(auto)]
+
 ghost use Rattle.std.specs.Prelude.{◌≡◌, ◌+◌, ◌-◌, ◌*◌, ◌%◌, ◌^◌, length, take};
 ghost use Rattle.chain.specs.Chain.{shift_from_top, words, trimmed, row};
 ghost use Rattle.chain.specs.BackwardChain.{converted};

@@ -40,7 +40,7 @@ use Rattle.chain.proofs.Shifting.{length_shift}
 use Rattle.chain.proofs.Calls.{length-joined, length-product}
 use Rattle.chain.proofs.CoefficientLaws.{value_coefficients, row_coefficients}
 use Rattle.fold.specs.Folding.{fold}
-use Rattle.fold.specs.Layout.{row_count, plan_words}
+use Rattle.fold.specs.Layout.{plan_words}
 use Rattle.fold.specs.RowSpans.{Ordered, Says}
 use Rattle.fold.proofs.ReadBack.{take_row, row_back}
 use Rattle.fold.proofs.Origins.{root_first, root_end, rows_come}
@@ -64,7 +64,6 @@ use Rattle.plan.specs.Calls.{Call, written, plan_left, points_of}
 use Rattle.reason.specs.declared.ReasonAnswer.{ReasonAnswer}
 use Rattle.reason.specs.RowTrees.{row_tree}
 use Rattle.reason.specs.Reasons.{Stays, Reason}
-use Rattle.reason.specs.Explaining as Explaining
 use Rattle.reason.specs.Explaining.{refusing, explaining, Explaining, not-counted, no_operator, operator}
 use Rattle.reason.proofs.Answers.{explaining-unique, answer-refused}
 use Rattle.reason.proofs.CompiledRows as CompiledRows

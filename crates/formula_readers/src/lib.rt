@@ -1,5 +1,7 @@
 // The readers of the grammar: sum, product, factor, power and atom call each other in a cycle on the text and a place.
 // Repetition is a loop, so the calls go deeper through brackets only. Nodes and faults are noted by `formula_nodes`; what they decide is judged in `formula_read`.
+#![tactic(auto)]
+
 ghost use Rattle.std.specs.Prelude.{◌≡◌, ◌||◌, ◌<◌, ◌≤◌, eqb, length, get_or};
 ghost use Rattle.formula.specs.Bytes.{plus_sign, minus_sign};
 ghost use Rattle.formula_scan.specs.Packing.{unpacked, Packs};

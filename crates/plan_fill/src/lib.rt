@@ -1,5 +1,7 @@
 // Filling a table by a plan, for callers. Any words may be lent.
 // Whether a plan is sound is checked in `plan_sound`, cost is in `plan_costs`, the work of a point in `plan_points`, filling with era count in `plan_eras`; formulas live above.
+#![tactic(auto)]
+
 ghost use Rattle.std.specs.Prelude.{◌≡◌, true, ◌≤◌, length};
 ghost use Rattle.plan.specs.Measures.{plan_length, most_rows};
 ghost use Rattle.plan.specs.Plan.{sound};

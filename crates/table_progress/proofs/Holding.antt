@@ -1,11 +1,11 @@
 -- Bytes copied to the beginning of a buffer, and the bytes held of the line under way.
 use mathlib.Core.Path.{◌≡◌, refl, sym, ap, ◌∙◌}
-use mathlib.Core.List.{List, ◌++◌, append_assoc, append-nil}
+use mathlib.Core.List.{List, ◌++◌, append_assoc}
 use Prim.Native.Nat.{ℕ, ◌+◌, ◌-◌, ◌≤◌, ◌<◌}
 use native.Mathlib.Nat.{sub-zero}
 use native.Mathlib.Omega.{arith}
 use lib.ListN.{length, take, drop, length-append, length-take, length-drop, take-append-drop}
-use lib.Seq.{length-take-le, take_all, take-length, drop-length, drop-append-le, take-append-add}
+use lib.Seq.{length-take-le, take_all, drop-append-le, take-append-add}
 use Rattle.plan.proofs.RowLaws.{part, part_put, part-put, tail_part}
 use Rattle.table_fields.specs.Writing.{Wrote}
 use Rattle.table_fields.proofs.Joining.{wrote-from-start}
@@ -29,26 +29,12 @@ pub rear_fits : (l : List ℕ) (at : ℕ) {s m : List ℕ} {r : ℕ} → at ≤ 
     → length m ≡ length (part at (length l) l) → at + r ≤ length l
 rear_fits l at h w same = omega (arith, wrote_fits w same, ap length (tail_part at l), length-drop at l)
 
--- ---- all bytes, copied as the kit's `bytes` says it
-abbrev pub copied : List ℕ → List ℕ → List ℕ
-copied from to = take (length from) from ++ drop (length from) to
-
-pub copied-over : (from to : List ℕ) → copied from to ≡ over from to
-copied-over from to = ap (λ s. s ++ drop (length from) to) (take-length from)
-
 -- A part of a buffer, filled with the bytes of a text.
 module _ (at : ℕ) (l s : List ℕ) (end : ℕ) (e : end ≡ at + length s) (inside : end ≤ length l) where
-  pub copied-part : copied s (part at end l) ≡ s
-  copied-part =
-      copied-over s (part at end l) ∙ ap (λ n. s ++ drop n (part at end l)) size ∙ ap (λ r. s ++ r) (drop-length (part at end l)) ∙ append-nil s
-    where
-      size : length s ≡ length (part at end l)
-      size = omega (arith, length-take-le (end - at) (drop at l) (omega (arith, length-drop at l)))
-
-  pub text-wrote : {new : List ℕ} → new ≡ copied s (part at end l) → Wrote l at s end (part_put at end l new)
+  pub text-wrote : {new : List ℕ} → new ≡ s → Wrote l at s end (part_put at end l new)
   text-wrote put = record {
     bytes =
-        ap (part_put at end l) (put ∙ copied-part)
+        ap (part_put at end l) put
         ∙ part-put at end l s (omega arith)
         ∙ append_assoc (take at l) s (drop end l)
         ∙ ap (λ n. take at l ++ (s ++ drop n l)) e;
@@ -66,11 +52,11 @@ module _ (held : ℕ) (line more : List ℕ) where
     at_hand : length (take held line ++ s) ≡ end
     at_hand = omega (arith, length-append (take held line) s, length-take-le held line (omega arith))
 
-    held_behind : {new : List ℕ} → held_with held line more ≡ take held line ++ s → new ≡ copied s (part held end line)
+    held_behind : {new : List ℕ} → held_with held line more ≡ take held line ++ s → new ≡ s
         → Held end (part_put held end line new)
     held_behind so put = (
       sym at_hand ∙ sym (ap length so),
-      ap (part_put held end line) (put ∙ copied-part held line s end e inside)
+      ap (part_put held end line) put
           ∙ part-put held end line s (omega arith)
           ∙ ap (λ n. take held line ++ s ++ drop n line) (sym at_hand)
           ∙ ap (λ r. over r line) (sym so),
@@ -81,13 +67,13 @@ module _ (held : ℕ) (line more : List ℕ) where
     length_held = length-take-le held line (omega arith)
 
     -- All of the others may matter, or only as many as there is room for.
-    pub held_all : {new : List ℕ} → length more ≤ 4097 - held → new ≡ copied more (part held (held + length more) line)
+    pub held_all : {new : List ℕ} → length more ≤ 4097 - held → new ≡ more
         → Held (held + length more) (part_put held (held + length more) line new)
     held_all k put =
         held_behind more (held + length more) refl (omega arith)
         (take_all 4097 (take held line ++ more) (omega (arith, length_held, length-append (take held line) more))) put
 
-    pub held_some : {new : List ℕ} → 4097 - held < length more → new ≡ copied (part 0 (4097 - held) more) (part held 4097 line)
+    pub held_some : {new : List ℕ} → 4097 - held < length more → new ≡ part 0 (4097 - held) more
         → Held 4097 (part_put held 4097 line new)
     held_some k put = held_behind (part 0 (4097 - held) more) 4097 whole long (most ∙ rw (sub-zero (4097 - held))) put
       where

@@ -11,7 +11,6 @@ use Rattle.plan.specs.Measures.{plan_length}
 use Rattle.formula.specs.Tree.{Tree}
 use Rattle.formula.specs.Refusals.{Refused, Accepted}
 use Rattle.formula_scan.specs.Verdict.{Verdict, verdict}
-use Rattle.formula_scan.specs.Verdict as Verdict
 use Rattle.formula_scan.proofs.Judging.{fault_number}
 use Rattle.formula_scan.proofs.Verdicts.{refused-verdict, accepted-verdict}
 use Rattle.plan.specs.Plan.{row_count, refusal}

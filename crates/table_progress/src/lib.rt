@@ -2,7 +2,6 @@
 // A whole line is done in `table_lines`, the input is taken step by step in `table_steps`; what a run prints, as 01 says it, is in `table`.
 #![tactic(auto)]
 
-
 // Which line comes next.
 #[derive(Clone, Copy)]
 pub enum Awaited {

@@ -1,5 +1,5 @@
-use Rattle.std.proofs.Common.{◌≡◌, ◌-◌, ◌≤◌, take, sym, ◌∙◌, arith, rules}
-use Rattle.chain.specs.Chain.{words, row}
+use Rattle.std.proofs.Common.{sym, ◌∙◌, arith, rules}
+use Rattle.chain.specs.Chain.{words}
 use Rattle.chain.proofs.Rows.{row_store, array_filled}
 use Rattle.chain_backward.specs.Alternating.{alternated}
 use Rattle.chain_backward.proofs.Products.{entry_alternated, length-alternated}

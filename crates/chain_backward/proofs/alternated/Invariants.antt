@@ -1,9 +1,7 @@
 -- `alternated` gives every word the sign of its place. Invariant: the first i of them are stored.
-use Rattle.std.proofs.Common.{◌≡◌, ◌-◌, ◌≤◌, take, sym, ◌∙◌, arith, rules}
+use Rattle.std.proofs.Common.{◌≡◌, ◌-◌, ◌≤◌, take}
 use Rattle.chain.specs.Chain.{words, row}
-use Rattle.chain.proofs.Rows.{row_store, array_filled}
 use Rattle.chain_backward.specs.Alternating.{alternated}
-use Rattle.chain_backward.proofs.Products.{entry_alternated, length-alternated}
 use Rattle.chain_backward.proofs.alternated.Given as goal
 
 abbrev pub invariant-loop-i : goal.invariant-loop-i

@@ -1,5 +1,5 @@
 -- `conversion` converts the words up to the given length, with zeros past them, and trims.
-use Rattle.std.proofs.Common.{arith, rules, le-ltb, lt-ltb}
+use Rattle.std.proofs.Common.{arith, le-ltb, lt-ltb}
 use Rattle.chain_backward.proofs.conversion.Goals as goal
 
 pub returns-then-k-gt-LONGEST : goal.returns-then-k-gt-LONGEST

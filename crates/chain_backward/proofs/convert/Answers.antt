@@ -1,8 +1,7 @@
-use Rattle.std.proofs.Common.{◌≡◌, ◌+◌, ◌-◌, ◌≤◌, length, ap, ◌∙◌, arith, rules}
+use Rattle.std.proofs.Common.{◌+◌, length, ap, ◌∙◌, arith}
 use Rattle.chain_arrays.specs.Operations.{worked}
 use Rattle.chain_backward.proofs.Turns.{underway, underway_none, underway_all, underway_turn, length_underway}
 use Rattle.chain_backward.proofs.convert.Goals as goal
-
 
 pub loop-j-init : goal.loop-j-init
 loop-j-init c = (omega arith, c.requires, underway_none (worked c.args.operation) c.args.f.now)

@@ -1,7 +1,7 @@
 -- `convert` takes 16 turns over 17 words. Invariant: j of them are taken.
-use Rattle.std.proofs.Common.{◌≡◌, ◌+◌, ◌-◌, ◌≤◌, length, ap, ◌∙◌, arith, rules}
+use Rattle.std.proofs.Common.{◌≡◌, ◌-◌, ◌≤◌, length}
 use Rattle.chain_arrays.specs.Operations.{worked}
-use Rattle.chain_backward.proofs.Turns.{underway, underway_none, underway_all, underway_turn, length_underway}
+use Rattle.chain_backward.proofs.Turns.{underway}
 use Rattle.chain_backward.proofs.convert.Given as goal
 
 abbrev pub invariant-loop-j : goal.invariant-loop-j

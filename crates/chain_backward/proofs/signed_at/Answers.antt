@@ -1,5 +1,5 @@
 -- `signed_at` leaves a word at an even place, and takes it from 0 at an odd one.
-use Rattle.std.proofs.Common.{sym, ◌∙◌, mod-eq_of_lt, arith, rules}
+use Rattle.std.proofs.Common.{sym, ◌∙◌, mod-eq_of_lt, arith}
 use Rattle.word.proofs.Ring.{difference-found}
 use Rattle.chain_backward.proofs.Products.{even_sign, odd_sign}
 use Rattle.chain_backward.proofs.signed_at.Goals as goal

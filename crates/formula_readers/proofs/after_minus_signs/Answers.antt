@@ -1,14 +1,8 @@
 use mathlib.Core.Path.{◌∙◌, sym}
-use Prim.Native.Nat.{◌-◌}
 use native.Mathlib.Omega.{arith}
-use lib.ListN.{length}
-use borrow.Author.Rules.{rules}
 use Rattle.formula_scan.proofs.Steps.{inside}
-use Rattle.formula_scan.proofs.Readings.{MinusSoFar, minus_starts, minus_goes_on, minus-ends}
+use Rattle.formula_scan.proofs.Readings.{minus_starts, minus_goes_on, minus-ends}
 use Rattle.formula_readers.proofs.after_minus_signs.Goals as goal
-
--- GONE overflow-add-i
---  omega (arith, c.before.before.loop.invariant.inside)
 
 pub loop-i-init : goal.loop-i-init
 loop-i-init c = minus_starts c.args.text.now c.args.at (omega arith)

@@ -1,11 +1,7 @@
 -- `after_minus_signs` passes minus signs. Invariant: the scan has counted those passed.
-use mathlib.Core.Path.{◌∙◌, sym}
 use Prim.Native.Nat.{◌-◌}
-use native.Mathlib.Omega.{arith}
 use lib.ListN.{length}
-use borrow.Author.Rules.{rules}
-use Rattle.formula_scan.proofs.Steps.{inside}
-use Rattle.formula_scan.proofs.Readings.{MinusSoFar, minus_starts, minus_goes_on, minus-ends}
+use Rattle.formula_scan.proofs.Readings.{MinusSoFar}
 use Rattle.formula_readers.proofs.after_minus_signs.Given as goal
 
 abbrev pub invariant-loop-i : goal.invariant-loop-i

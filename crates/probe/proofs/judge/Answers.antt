@@ -3,9 +3,6 @@ use Rattle.std.proofs.Common.{sym, ◌∙◌, rules}
 use Rattle.probe.proofs.Signs.{test_above, test_below, opposite_fits}
 use Rattle.probe.proofs.judge.Goals as goal
 
--- GONE overflow-sub-if2
---  opposite_fits c.before.args.tolerance c.before.requires
-
 pub returns-then-t-offset : goal.returns-then-t-offset
 returns-then-t-offset c =
     rw (sym (test_above c.args.tolerance c.requires c.args.offset c.ranges.offset) ∙ c.if-t-offset.true)

@@ -8,4 +8,4 @@ use Rattle.table_row_lines.proofs.write_text.Goals as goal
 pub returns : goal.returns
 returns c =
     joined (omega arith) c.write_byte-behind_tab.ensures
-    (text-wrote _ _ c.args.text.now _ (omega arith) (omega arith) c.UNKNOWN.copy.ensures.1)
+    (text-wrote _ _ c.args.text.now _ (omega arith) (omega arith) c.copy_from_slice.ensures.after)

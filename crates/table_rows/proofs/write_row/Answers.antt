@@ -9,7 +9,7 @@ use Rattle.table_rows.proofs.write_row.Goals as goal
 pub row-words-requires : goal.row-words-requires
 row-words-requires c =
     let (long, sound) = accepted c.args.plan.now c.requires.plan_value in
-    (long, omega (arith, sound-count c.args.plan.now sound))
+    record { plan_length_in_bounds = long; r_lt_most_rows = omega (arith, sound-count c.args.plan.now sound) }
 
 pub returns-then-words-lt-SUM : goal.returns-then-words-lt-SUM
 returns-then-words-lt-SUM c = let args = c.args in record { wrote = nothing_written args.formula.now args.plan.now args.r c.row-words.ensures.result_value (omega arith) args.out.now args.at; upper_bound = omega arith }
@@ -18,12 +18,12 @@ pub row_cost-cost-requires : goal.row_cost-cost-requires
 row_cost-cost-requires c =
     let (long, sound) = accepted c.args.plan.now c.requires.plan_value in
     let facts = row_facts c.args.plan.now c.args.r long sound c.requires.r_bound c.row-words.ensures.result_value in
-    (facts.words, (facts.known, facts.exponent))
+    record { row_len = facts.words; row_bound = facts.known; bound = facts.exponent }
 
 pub row_reason-reason-requires : goal.row_reason-reason-requires
 row_reason-reason-requires c =
     let (long, sound) = accepted c.args.plan.now c.requires.plan_value in
-    (long, (sound, c.requires.r_bound))
+    record { plan_length_in_bounds = long; plan_value = sound; r_bound = c.requires.r_bound }
 
 pub write_row_line-requires : goal.write_row_line-requires
 write_row_line-requires c = let p = c.args.plan.now in

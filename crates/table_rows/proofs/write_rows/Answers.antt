@@ -13,9 +13,6 @@ use Rattle.table_progress.specs.Printed.{rows_print}
 use Rattle.table_progress.proofs.RowLines.{row_next}
 use Rattle.table_rows.proofs.write_rows.Goals as goal
 
--- GONE overflow-add-r
---  omega arith
-
 pub bounds-plan-0 : goal.bounds-plan-0
 bounds-plan-0 c =
     omega (arith, (accepted c.args.plan.now c.requires.plan_value).0)
@@ -28,7 +25,7 @@ loop-r-init c =
 
 pub write_row-next-requires : goal.write_row-next-requires
 write_row-next-requires c =
-    (c.requires.plan_value, (c.requires.texts_within, (omega arith, omega arith)))
+    record { plan_value = c.requires.plan_value; texts_within = c.requires.texts_within; r_bound = omega arith; at_in_bounds = omega arith }
 
 pub loop-r-smaller : goal.loop-r-smaller
 loop-r-smaller c = omega arith

@@ -1,15 +1,12 @@
-use mathlib.Core.Path.{◌≡◌, refl, ap, ◌∙◌}
-use Prim.Native.Nat.{suc, ◌+◌, ◌-◌, ◌≤◌}
+use mathlib.Core.Path.{refl, ap, ◌∙◌}
+use Prim.Native.Nat.{suc}
 use native.Mathlib.Omega.{arith}
-use lib.ListN.{length, take}
 use lib.Seq.{take_all}
-use borrow.Author.Rules.{rules}
 use Rattle.formula.specs.Refusals.{count}
 use Rattle.table.specs.Parts.{tab}
 use Rattle.table.proofs.PartsFound.{count-here, count_other}
 use Rattle.table_fields.proofs.fields.count_fields.Goals as goal
 use Rattle.table_fields.proofs.fields.count_fields.Goals.{then-line-i-eq9, else-line-i-eq9}
-
 
 pub loop-i-init : goal.loop-i-init
 unfolding count
@@ -20,8 +17,8 @@ loop-i-preserved c =
     let line = c.args.line.now in
     let turn = c.loop-i in
     elim c.if-line-i-eq9.branch [
-      then-line-i-eq9 w ↦ (omega arith, omega arith, omega (arith, count-here tab line turn.i (omega arith) w.if-line-i-eq9.true))
-    | else-line-i-eq9 w ↦ (omega arith, omega arith, omega (arith, count_other tab line turn.i (omega arith) w.if-line-i-eq9.false))
+      | then-line-i-eq9 w ↦ (omega arith, omega arith, omega (arith, count-here tab line turn.i (omega arith) w.if-line-i-eq9.true))
+      | else-line-i-eq9 w ↦ (omega arith, omega arith, omega (arith, count_other tab line turn.i (omega arith) w.if-line-i-eq9.false))
     ]
 
 pub returns : goal.returns

@@ -1,14 +1,9 @@
 -- `count_fields` looks at each byte. Invariant: one more than the tabs passed.
-use mathlib.Core.Path.{◌≡◌, refl, ap, ◌∙◌}
-use mathlib.Core.Logic.{⊎_elim}
+use mathlib.Core.Path.{◌≡◌}
 use Prim.Native.Nat.{suc, ◌+◌, ◌-◌, ◌≤◌}
-use native.Mathlib.Omega.{arith}
 use lib.ListN.{length, take}
-use lib.Seq.{take_all}
-use borrow.Author.Rules.{rules}
 use Rattle.formula.specs.Refusals.{count}
 use Rattle.table.specs.Parts.{tab}
-use Rattle.table.proofs.PartsFound.{count-here, count_other}
 use Rattle.table_fields.proofs.fields.count_fields.Given as goal
 
 abbrev pub invariant-loop-i : goal.invariant-loop-i

@@ -1,7 +1,6 @@
 -- `field` lends what stands behind n - 1 tabs, up to the next.
 use mathlib.Core.Path.{ap, ◌∙◌}
 use native.Mathlib.Omega.{arith}
-use borrow.Author.Rules.{rules}
 use Rattle.table.specs.Parts.{tab, before}
 use Rattle.table.proofs.PartsFound.{found_inside, found_part}
 use Rattle.table_fields.proofs.fields.field.Goals as goal

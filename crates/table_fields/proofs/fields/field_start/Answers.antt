@@ -1,9 +1,8 @@
-use Prim.Native.Nat.{◌-◌, ◌≤◌, ◌<◌}
+use Prim.Native.Nat.{◌<◌}
 use native.Mathlib.Omega.{arith}
 use lib.ListN.{length}
-use borrow.Author.Rules.{rules}
 use Rattle.table.specs.Parts.{tab}
-use Rattle.table.proofs.PartsFound.{found_inside, BehindTabs, behind-none, behind-next, behind-all, behind-whole}
+use Rattle.table.proofs.PartsFound.{found_inside, behind-none, behind-next, behind-all, behind-whole}
 use Rattle.table_fields.proofs.fields.field_start.Goals as goal
 
 pub overflow_add-at : goal.overflow_add-at

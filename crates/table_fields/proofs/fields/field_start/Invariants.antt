@@ -1,10 +1,6 @@
 -- `field_start` goes from tab to tab. Invariant: the place stands behind the tabs passed.
-use Prim.Native.Nat.{◌-◌, ◌≤◌, ◌<◌}
-use native.Mathlib.Omega.{arith}
-use lib.ListN.{length}
-use borrow.Author.Rules.{rules}
-use Rattle.table.specs.Parts.{tab}
-use Rattle.table.proofs.PartsFound.{found_inside, BehindTabs, behind-none, behind-next, behind-all, behind-whole}
+use Prim.Native.Nat.{◌-◌, ◌≤◌}
+use Rattle.table.proofs.PartsFound.{BehindTabs}
 use Rattle.table_fields.proofs.fields.field_start.Given as goal
 
 abbrev pub invariant-loop-i : goal.invariant-loop-i

@@ -2,7 +2,6 @@
 use mathlib.Core.Path.{ap, ◌∙◌}
 use native.Mathlib.Omega.{arith}
 use lib.ListN.{length}
-use borrow.Author.Rules.{rules}
 use Rattle.table.specs.Parts.{field}
 use Rattle.table.proofs.PartsFound.{empty_none, empty_some}
 use Rattle.table_fields.proofs.fields.pick.Goals as goal

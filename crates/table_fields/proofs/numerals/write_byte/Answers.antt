@@ -1,5 +1,4 @@
 -- `write_byte` stores one byte.
-use borrow.Author.Rules.{rules}
 use native.Mathlib.Omega.{arith}
 use Rattle.table_fields.proofs.Joining.{wrote_byte}
 use Rattle.table_fields.proofs.numerals.write_byte.Goals as goal
