@@ -9,8 +9,8 @@ use Rattle.fold_powers.proofs.PowerOperands.{power_of_product, power_of_sum, pow
 use borrow.Author.Rules.{rules}
 use Rattle.fold_powers.proofs.fold_high_power.Goals as goal
 
--- GONE overflow-sub-root
---  omega (arith, operand_some c.before.requires.1.1.1.1.0.2)
+pub overflow_sub-root : goal.overflow_sub-root
+overflow_sub-root c = omega (arith, operand_some c.requires.one.2)
 
 -- GONE overflow-mul-if3
 -- 

@@ -8,11 +8,11 @@ use Rattle.fold_raises.proofs.RaiseOperands.{raise-folded, raise_as_row}
 use borrow.Author.Rules.{rules}
 use Rattle.fold_raises.proofs.fold_raise.Goals as goal
 
--- GONE overflow-sub-base-root
---  omega (arith, operands_some c.before.requires.1.1.3)
+pub overflow_sub-base_root : goal.overflow_sub-base_root
+overflow_sub-base_root c = omega (arith, operands_some c.requires.two.3)
 
--- GONE overflow-sub-exponent-root
---  omega (arith, operands_some c.before.requires.1.1.3)
+pub overflow_sub-exponent_root : goal.overflow_sub-exponent_root
+overflow_sub-exponent_root c = omega (arith, operands_some c.requires.two.3)
 
 pub returns-then-exponent-lt-PRODUCT_CHAIN : goal.returns-then-exponent-lt-PRODUCT_CHAIN
 returns-then-exponent-lt-PRODUCT_CHAIN c =

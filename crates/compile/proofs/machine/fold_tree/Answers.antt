@@ -64,7 +64,7 @@ shape_of-plan c =
     let tree = c.requires.compilable in
     let done = c.fold_nodes-rows in
     let at = done.ensures tree.0 tree.1 tree.2 in
-    ap length (assembled args.start args.step args.plan.now done.new.0 tree.0 done.result long (omega (arith, done.auto)) at
+    ap length (assembled args.start args.step args.plan.now done.new.plan tree.0 done.result long (omega (arith, done.auto)) at
     c.start-behind.ensures c.clear.ensures)
     ∙ whole_length (span_of tree.0) (fold 64 args.start args.step tree.0) args.plan.now (subst (λ n. n ≤ most_rows) at.rows at.few) long
 
@@ -72,6 +72,6 @@ pub returns : goal.returns
 returns c =
     let args = c.args in
     let done = c.fold_nodes-rows in
-    λ t comp w. assembled args.start args.step args.plan.now done.new.0 t done.result
+    λ t comp w. assembled args.start args.step args.plan.now done.new.plan t done.result
     c.requires.plan_length_in_bounds (omega (arith, done.auto))
     (done.ensures t comp w) c.start-behind.ensures c.clear.ensures
