@@ -3,27 +3,27 @@ use mathlib.Core.Path.{◌∙◌}
 use native.Mathlib.Omega.{arith}
 use Rattle.chain_arrays.proofs.Paired.{powers_by_word}
 use Rattle.fold_operands.proofs.OperandLaws.{operand_some, operand_short}
-use Rattle.fold_operands.proofs.Leaving.{room_of_one, either_way}
+use Rattle.fold_operands.proofs.Leaving.{room_of_one}
+use mathlib.Core.Logic.{inl, inr}
 use Rattle.fold_powers.proofs.PowerChains.{times_fits}
 use Rattle.fold_powers.proofs.PowerOperands.{power_of_product, power_of_sum, power_as_row}
 use borrow.Author.Rules.{rules}
 use Rattle.fold_powers.proofs.fold_high_power.Goals as goal
+use Rattle.fold_powers.proofs.fold_high_power.Goals.{then-root_kind-eq-SUM_CHAIN+else-k-n-le16, else-root_kind-eq-SUM_CHAIN}
 
 pub overflow_sub-root : goal.overflow_sub-root
 overflow_sub-root c = omega (arith, operand_some c.requires.one.2)
 
--- GONE overflow-mul-if3
--- 
---     let start = c.before.before.before.before.before.before.before.before.before in
---     times_fits _ _
---     (operand_short start.requires.1.1.1.1.0.2 (omega (arith, c.before.before.before.before.before.before.kind.ensures, c.if2.true))
---     c.before.before.before.before.length-of.ensures)
---     start.requires.1.1.1.0
+pub overflow_mul-k : goal.overflow_mul-k
+overflow_mul-k c =
+    times_fits _ _
+    (operand_short c.requires.one.2 (omega (arith, c.kind-root_kind.ensures)) c.length_of-k.ensures)
+    c.requires.n_bound
 
 pub with_ones-requires : goal.with_ones-requires
 with_ones-requires c =
     operand_short c.requires.one.2
-    (omega (arith, c.kind-root_kind.ensures, c.if-root_kind-eq-PRODUCT_CHAIN.true))
+    (omega (arith, c.kind-root_kind.ensures))
     c.length_of-k.ensures
 
 pub returns-then-root_kind-eq-PRODUCT_CHAIN : goal.returns-then-root_kind-eq-PRODUCT_CHAIN
@@ -52,6 +52,9 @@ returns c =
     power_as_row c.args.plan.now c.args.first c.args.end c.args.n
     c.kind-root_kind.ensures c.requires.le_n c.requires.nonzero
     (room_of_one c.requires.one.2 c.requires.plan_length_in_bounds c.requires.end_lt_most_rows)
-    c.length_of-k.ensures c.if-root_kind-eq-PRODUCT_CHAIN.false
-    (either_way c.if-root_kind-eq-SUM_CHAIN.branch (λ x. (x.0.taken, x.1.left)) (λ x. x.left))
+    c.length_of-k.ensures (λ two. omega arith)
+    (elim c.if-root_kind-eq-SUM_CHAIN.branch [
+      | then-root_kind-eq-SUM_CHAIN+else-k-n-le16 w ↦ inl (w.if-root_kind-eq-SUM_CHAIN.true, w.if-k-n-le16.false)
+      | else-root_kind-eq-SUM_CHAIN w ↦ inr w.if-root_kind-eq-SUM_CHAIN.false
+    ])
     c.append.ensures
