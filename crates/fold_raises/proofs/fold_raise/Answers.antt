@@ -31,7 +31,7 @@ returns c =
     c.kind-base.ensures c.kind-exponent.ensures
     (room_of_both c.requires.two.3 c.requires.plan_length_in_bounds c.requires.end_lt_most_rows)
     (elim c.if-base-eq-CONSTANT.branch [
-      then-base-eq-CONSTANT+else-exponent-lt-PRODUCT_CHAIN w ↦ inl (w.if-base-eq-CONSTANT.true, omega (arith, w.if-exponent-lt-PRODUCT_CHAIN.false)) |
-      else-base-eq-CONSTANT w ↦ inr w.if-base-eq-CONSTANT.false
+      | then-base-eq-CONSTANT+else-exponent-lt-PRODUCT_CHAIN w ↦ inl (w.if-base-eq-CONSTANT.true, omega (arith, w.if-exponent-lt-PRODUCT_CHAIN.false))
+      | else-base-eq-CONSTANT w ↦ inr w.if-base-eq-CONSTANT.false
     ])
     c.append.ensures
