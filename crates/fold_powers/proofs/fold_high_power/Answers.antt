@@ -1,10 +1,10 @@
 -- `fold_high_power` folds product chains and short sum chains; anything else becomes a row.
 use mathlib.Core.Path.{◌∙◌}
+use mathlib.Core.Logic.{inl, inr}
 use native.Mathlib.Omega.{arith}
 use Rattle.chain_arrays.proofs.Paired.{powers_by_word}
 use Rattle.fold_operands.proofs.OperandLaws.{operand_some, operand_short}
 use Rattle.fold_operands.proofs.Leaving.{room_of_one}
-use mathlib.Core.Logic.{inl, inr}
 use Rattle.fold_powers.proofs.PowerChains.{times_fits}
 use Rattle.fold_powers.proofs.PowerOperands.{power_of_product, power_of_sum, power_as_row}
 use borrow.Author.Rules.{rules}
@@ -17,13 +17,13 @@ overflow_sub-root c = omega (arith, operand_some c.requires.one.2)
 pub overflow_mul-k : goal.overflow_mul-k
 overflow_mul-k c =
     times_fits _ _
-    (operand_short c.requires.one.2 (omega (arith, c.kind-root_kind.ensures)) c.length_of-k.ensures)
+    (operand_short c.requires.one.2 (omega (arith, c.kind-root_kind.ensures, c.if-root_kind-eq-SUM_CHAIN.true)) c.length_of-k.ensures)
     c.requires.n_bound
 
 pub with_ones-requires : goal.with_ones-requires
 with_ones-requires c =
     operand_short c.requires.one.2
-    (omega (arith, c.kind-root_kind.ensures))
+    (omega (arith, c.kind-root_kind.ensures, c.if-root_kind-eq-PRODUCT_CHAIN.true))
     c.length_of-k.ensures
 
 pub returns-then-root_kind-eq-PRODUCT_CHAIN : goal.returns-then-root_kind-eq-PRODUCT_CHAIN
@@ -52,9 +52,9 @@ returns c =
     power_as_row c.args.plan.now c.args.first c.args.end c.args.n
     c.kind-root_kind.ensures c.requires.le_n c.requires.nonzero
     (room_of_one c.requires.one.2 c.requires.plan_length_in_bounds c.requires.end_lt_most_rows)
-    c.length_of-k.ensures (λ two. omega arith)
+    c.length_of-k.ensures c.if-root_kind-eq-PRODUCT_CHAIN.false
     (elim c.if-root_kind-eq-SUM_CHAIN.branch [
-      | then-root_kind-eq-SUM_CHAIN+else-k-n-le16 w ↦ inl (w.if-root_kind-eq-SUM_CHAIN.true, w.if-k-n-le16.false)
+      | then-root_kind-eq-SUM_CHAIN+else-k-n-le16 w ↦ inl (w.if-root_kind-eq-SUM_CHAIN.true, omega (arith, w.if-k-n-le16.false))
       | else-root_kind-eq-SUM_CHAIN w ↦ inr w.if-root_kind-eq-SUM_CHAIN.false
     ])
     c.append.ensures

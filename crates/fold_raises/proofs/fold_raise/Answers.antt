@@ -1,10 +1,10 @@
 -- `fold_raise` folds a constant to a constant or a sum chain; anything else becomes a row.
 use mathlib.Core.Path.{◌∙◌}
+use mathlib.Core.Logic.{inl, inr}
 use native.Mathlib.Omega.{arith}
 use Rattle.chain_arrays.proofs.Paired.{raises_by_word}
 use Rattle.fold_operands.proofs.OperandLaws.{operands_some}
 use Rattle.fold_operands.proofs.Leaving.{room_of_both}
-use mathlib.Core.Logic.{inl, inr}
 use Rattle.fold_raises.proofs.RaiseOperands.{raise-folded, raise_as_row}
 use borrow.Author.Rules.{rules}
 use Rattle.fold_raises.proofs.fold_raise.Goals as goal
@@ -31,6 +31,7 @@ returns c =
     c.kind-base.ensures c.kind-exponent.ensures
     (room_of_both c.requires.two.3 c.requires.plan_length_in_bounds c.requires.end_lt_most_rows)
     (elim c.if-base-eq-CONSTANT.branch [
-      | then-base-eq-CONSTANT+else-exponent-lt-PRODUCT_CHAIN w ↦ inl (w.if-base-eq-CONSTANT.true, w.if-exponent-lt-PRODUCT_CHAIN.false)
+      | then-base-eq-CONSTANT+else-exponent-lt-PRODUCT_CHAIN w ↦ inl (w.if-base-eq-CONSTANT.true, omega (arith, w.if-exponent-lt-PRODUCT_CHAIN.false))
       | else-base-eq-CONSTANT w ↦ inr w.if-base-eq-CONSTANT.false
-    ]) c.append.ensures
+    ])
+    c.append.ensures
