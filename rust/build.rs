@@ -18,7 +18,7 @@ fn main() {
     println!("cargo:rerun-if-changed={}", archive.display());
     if !archive.is_file() {
         eprintln!(
-            "otterchime: {} is not there: run `rt staticlib otterchime` in the repository, or set OTTERCHIME_LIB to its folder",
+            "otterchime: {} is not there: run `tools/archive` in the repository, or set OTTERCHIME_LIB to its folder",
             archive.display()
         );
         std::process::exit(1);

@@ -14,7 +14,7 @@
 //! # }
 //! ```
 //!
-//! The library is an archive for x86-64 Linux that `rt staticlib otterchime` writes. Where it can't be linked, only the types
+//! The library is an archive for x86-64 Linux that `tools/archive` writes. Where it can't be linked, only the types
 //! are here: `LINKED` says which.
 #[cfg(otterchime_linked)]
 mod backward;

@@ -4,6 +4,7 @@ use crate::plans;
 use edges_print as print;
 use edges_text::words;
 use plan::PLAN_WORDS;
+use std::io;
 
 const MOST: u64 = 18446744073709551615;
 
@@ -43,46 +44,52 @@ fn is_same(once: &[u64], parts: &[u64]) -> bool {
     true
 }
 
-fn print_plan(answer: fold::CompileAnswer, plan: &[u64], cost: u64) {
-    print::answer(print::TAB, answer.number, answer.place);
-    print::label(print::ROWS);
-    print::number(words::word_at(plan, 0));
-    print::label(print::BLANK);
-    print::label(print::COST);
-    print::number(cost);
-    print::label(print::SUM);
-    print::number(words::checksum(plan));
-    print::label(print::BLANK);
-    print::label(print::VALUES);
+fn print_plan(
+    rt: &impl Print,
+    answer: fold::CompileAnswer,
+    plan: &[u64],
+    cost: u64,
+) -> io::Result<()> {
+    print::answer(rt, print::TAB, answer.number, answer.place)?;
+    print::label(rt, print::ROWS)?;
+    print::number(rt, words::word_at(plan, 0))?;
+    print::label(rt, print::BLANK)?;
+    print::label(rt, print::COST)?;
+    print::number(rt, cost)?;
+    print::label(rt, print::SUM)?;
+    print::number(rt, words::checksum(plan))?;
+    print::label(rt, print::BLANK)?;
+    print::label(rt, print::VALUES)
 }
 
-fn on_grid(formula: &[u8], start: u64, step: u64) {
+fn on_grid(rt: &impl Print, formula: &[u8], start: u64, step: u64) -> io::Result<()> {
     let mut plan = [words::UNREAD; PLAN_WORDS];
     let mut once = [words::UNREAD; VALUES];
     let mut parts = [words::UNREAD; VALUES];
-    print::label(print::GRID);
-    print::number(start);
-    print::label(print::COMMA);
-    print::number(step);
-    print::label(print::BLANK);
-    print::text(formula);
+    print::label(rt, print::GRID)?;
+    print::number(rt, start)?;
+    print::label(rt, print::COMMA)?;
+    print::number(rt, step)?;
+    print::label(rt, print::BLANK)?;
+    print::text(rt, formula)?;
     let answer = plans::compiled(formula, start, step, &mut plan);
     let cost = plans::cost(&plan);
-    print_plan(answer, &plan, cost.cost);
+    print_plan(rt, answer, &plan, cost.cost)?;
     plans::filled(&mut plan, &mut once, MOST);
-    print::list(&once, VALUES);
+    print::list(rt, &once, VALUES)?;
     plans::compiled(formula, start, step, &mut plan);
     fill_parts(&mut plan, &mut parts, cost.cost);
     if !is_same(&once, &parts) {
-        print::label(print::DIFFERS);
+        print::label(rt, print::DIFFERS)?;
     }
-    print::label(print::LINE);
+    print::label(rt, print::LINE)
 }
 
-pub fn each(formula: &[u8]) {
+pub fn each(rt: &impl Print, formula: &[u8]) -> io::Result<()> {
     let mut i = 0;
     while i < 36 {
-        on_grid(formula, CORNERS[i / 6], CORNERS[i % 6]);
+        on_grid(rt, formula, CORNERS[i / 6], CORNERS[i % 6])?;
         i += 1;
     }
+    Ok(())
 }

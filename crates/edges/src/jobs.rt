@@ -2,6 +2,7 @@
 // A line writes it with > for a tab and / for a line feed, and so is the output shown. Where a line prints much, it is told by a checksum.
 use edges_print as print;
 use edges_text::{notation, text, words};
+use std::io;
 use table::Tool;
 use table_progress::Stepped;
 
@@ -43,21 +44,20 @@ fn exchange(bytes: &mut [u8]) -> u64 {
 }
 
 // Shows what a step wrote. One that is refused is told.
-fn show(stepped: Stepped, out: &mut [u8]) {
+fn show(rt: &impl Print, stepped: Stepped, out: &mut [u8]) -> io::Result<()> {
     let count = words::at_most(stepped.wrote, out.len());
     let sum = exchange(&mut out[0..count]);
     if !stepped.ok {
-        print::label(print::NOT_DONE);
+        print::label(rt, print::NOT_DONE)?;
     }
     if count <= MOST_SHOWN {
-        print::text(&out[0..count]);
-        return;
+        return print::text(rt, &out[0..count]);
     }
-    print::label(print::SUM);
-    print::number(sum);
-    print::label(print::OF);
-    print::number(count as u64);
-    print::label(print::BYTES);
+    print::label(rt, print::SUM)?;
+    print::number(rt, sum)?;
+    print::label(rt, print::OF)?;
+    print::number(rt, count as u64)?;
+    print::label(rt, print::BYTES)
 }
 
 // What the next step is given: all that is left, or one of uneven pieces of 1 to 5 bytes.
@@ -72,6 +72,7 @@ fn piece(input: &[u8], at: usize, is_cut: bool) -> &[u8] {
 // Runs the input to its end. Each step uses a byte at least while some are left, and with none it writes nothing, so as many steps as there are
 // bytes come to the end.
 fn run_steps(
+    rt: &impl Print,
     input: &[u8],
     is_cut: bool,
     line: &mut [u8],
@@ -79,7 +80,7 @@ fn run_steps(
     plan: &mut [u64],
     table: &mut [u64],
     out: &mut [u8],
-) {
+) -> io::Result<()> {
     let mut progress = table_steps::start();
     let mut at = 0;
     let mut left = input.len();
@@ -94,27 +95,29 @@ fn run_steps(
             table,
             out,
         );
-        show(stepped, out);
+        show(rt, stepped, out)?;
         at = std::num::wrapping_add_usize(at, stepped.used);
         let reached = stepped.progress;
         progress = reached;
         left -= 1;
     }
     show(
+        rt,
         table_steps::finish(Tool::Tables, progress, line, defaults, plan, table, out),
         out,
-    );
+    )
 }
 
 // Lends the buffers to a run.
-fn run_input(input: &[u8], is_cut: bool) {
+fn run_input(rt: &impl Print, input: &[u8], is_cut: bool) -> io::Result<()> {
     let mut line = [0u8; HELD_AT_MOST];
     let mut defaults = [0u8; LONGEST_LINE];
     let mut plan = [words::UNREAD; plan::PLAN_WORDS];
     let mut table = [words::UNREAD; MOST_POINTS];
     let mut out = [0u8; MOST_PRINTED];
-    print::label(print::TAB);
+    print::label(rt, print::TAB)?;
     run_steps(
+        rt,
         input,
         is_cut,
         &mut line,
@@ -122,18 +125,18 @@ fn run_input(input: &[u8], is_cut: bool) {
         &mut plan,
         &mut table,
         &mut out,
-    );
+    )
 }
 
 // What the run writes, and what it writes where its input comes in uneven pieces.
-pub fn run(line: &[u8]) {
+pub fn run(rt: &impl Print, line: &[u8]) -> io::Result<()> {
     let mut input = [0u8; 7000];
     let length = notation::expand(line, &mut input);
     exchange(&mut input);
     let file = text::part(&input, 0, length);
-    print::label(print::JOBS);
-    print::text(line);
-    run_input(file, false);
-    run_input(file, true);
-    print::label(print::LINE);
+    print::label(rt, print::JOBS)?;
+    print::text(rt, line)?;
+    run_input(rt, file, false)?;
+    run_input(rt, file, true)?;
+    print::label(rt, print::LINE)
 }

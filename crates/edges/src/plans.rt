@@ -8,6 +8,7 @@ use edges_print as print;
 use edges_text::rows::{ELEMENTS_END, END_BYTE};
 use edges_text::{rows, text, words};
 use plan::{MOST_ROWS, PLAN_WORDS, ROW_WORDS};
+use std::io;
 
 pub fn cost(plan: &[u64]) -> plan::CostAnswer {
     plan_costs::cost(plan)
@@ -22,111 +23,125 @@ pub fn compiled(formula: &[u8], start: u64, step: u64, plan: &mut [u64]) -> fold
 }
 
 // The number of rows, and so many of them, without their spans. A row's words that are 0 up to its elements' end are left out, but for its kind.
-fn print_rows(plan: &[u64], most: usize)
+fn print_rows(rt: &impl Print, plan: &[u64], most: usize) -> io::Result<()>
     requires { most ≤ most_rows }
 {
     let counted = words::word_at(plan, 0);
-    print::label(print::PLAN);
-    print::number(counted);
-    print::label(print::COLON);
+    print::label(rt, print::PLAN)?;
+    print::number(rt, counted)?;
+    print::label(rt, print::COLON)?;
     let words = ROW_WORDS * words::at_most(counted as usize, most);
     let mut i = 0;
     while i < words {
         let place = i % ROW_WORDS;
         if place == 0 {
-            print::label(print::BLANK);
-            print::number(words::word_at(plan, 1 + i));
+            print::label(rt, print::BLANK)?;
+            print::number(rt, words::word_at(plan, 1 + i))?;
         } else if !words::is_painted(plan, 1 + i, ELEMENTS_END + i - place, 0) {
-            print::label(print::COMMA);
-            print::number(words::word_at(plan, 1 + i));
+            print::label(rt, print::COMMA)?;
+            print::number(rt, words::word_at(plan, 1 + i))?;
         }
         i += 1;
     }
+    Ok(())
 }
 
 // first..end of every row; none where more rows are counted than a plan has.
-fn print_spans(plan: &[u64]) {
+fn print_spans(rt: &impl Print, plan: &[u64]) -> io::Result<()> {
     let count = words::word_at(plan, 0) as usize;
-    print::text(b"\tspans");
+    print::text(rt, b"\tspans")?;
     if MOST_ROWS < count {
-        return;
+        return Ok(());
     }
     let mut r = 0;
     while r < count {
         let end = END_BYTE + ROW_WORDS * r;
-        print::label(print::BLANK);
-        print::number(words::word_at(plan, end - 1));
-        print::text(b"..");
-        print::number(words::word_at(plan, end));
+        print::label(rt, print::BLANK)?;
+        print::number(rt, words::word_at(plan, end - 1))?;
+        print::text(rt, b"..")?;
+        print::number(rt, words::word_at(plan, end))?;
         r += 1;
     }
+    Ok(())
 }
 
 // The words of the table that were written and two more, at most 22; the number of rows and the first 10; and the checksums.
-pub fn print_lent(table: &[u64], points: usize, plan: &[u64]) {
-    print::label(print::TABLE);
-    print::list(table, words::at_most(points, 20) + 2);
-    print::label(print::SUM);
-    print::number(words::checksum(table));
-    print::label(print::BLANK);
-    print_rows(plan, 10);
-    print::label(print::SUM);
-    print::number(words::checksum(plan));
+pub fn print_lent(rt: &impl Print, table: &[u64], points: usize, plan: &[u64]) -> io::Result<()> {
+    print::label(rt, print::TABLE)?;
+    print::list(rt, table, words::at_most(points, 20) + 2)?;
+    print::label(rt, print::SUM)?;
+    print::number(rt, words::checksum(table))?;
+    print::label(rt, print::BLANK)?;
+    print_rows(rt, plan, 10)?;
+    print::label(rt, print::SUM)?;
+    print::number(rt, words::checksum(plan))
 }
 
 // Asks everything of the lent words, and answers the points written.
-fn ask(plan: &mut [u64], table: &mut [u64], budget: u64) -> usize {
+fn ask(rt: &impl Print, plan: &mut [u64], table: &mut [u64], budget: u64) -> io::Result<usize> {
     let sound = plan_sound::sound(plan);
     let cost = cost(plan);
     let fill = filled(plan, table, budget);
-    print::label(print::TAB);
-    print::answer(print::SOUND, sound.number, sound.place);
-    print::answer(print::COST, cost.number, cost.place);
-    print::number(cost.cost);
-    print::label(print::BLANK);
-    print::answer(print::FILL, fill.number, fill.place);
-    print::number(fill.points as u64);
-    print::label(print::BLANK);
-    print::number(fill.spent);
-    fill.points
+    print::label(rt, print::TAB)?;
+    print::answer(rt, print::SOUND, sound.number, sound.place)?;
+    print::answer(rt, print::COST, cost.number, cost.place)?;
+    print::number(rt, cost.cost)?;
+    print::label(rt, print::BLANK)?;
+    print::answer(rt, print::FILL, fill.number, fill.place)?;
+    print::number(rt, fill.points as u64)?;
+    print::label(rt, print::BLANK)?;
+    print::number(rt, fill.spent)?;
+    Ok(fill.points)
 }
 
-fn fill(token: &[u8], held: usize, plan: &mut [u64], table: &mut [u64])
+fn fill(
+    rt: &impl Print,
+    token: &[u8],
+    held: usize,
+    plan: &mut [u64],
+    table: &mut [u64],
+) -> io::Result<()>
     requires { held ≤ length plan.old }
 {
     let list = words::list(token);
     let asked = list.words;
     let room = words::at_most(asked[0] as usize, table.len());
-    let points = ask(&mut plan[0..held], &mut table[0..room], asked[1]);
-    print_lent(table, points, plan);
+    let points = ask(rt, &mut plan[0..held], &mut table[0..room], asked[1])?;
+    print_lent(rt, table, points, plan)
 }
 
 // Of an accepted formula the cost, the rows, whether the words after the rows are clean, and whether those after the plan stayed; of a
 // refused one whether all words stayed.
-fn print_plan(number: u64, plan: &[u64]) {
+fn print_plan(rt: &impl Print, number: u64, plan: &[u64]) -> io::Result<()> {
     if number != 0 {
-        print::kept(plan, 0);
-        return;
+        return print::kept(rt, plan, 0);
     }
     let cost = cost(plan);
     let count = words::at_most(words::word_at(plan, 0) as usize, MOST_ROWS);
-    print::answer(print::COST, cost.number, cost.place);
-    print::number(cost.cost);
-    print::label(print::BLANK);
-    print_rows(plan, MOST_ROWS);
-    print::clean(plan, 1 + ROW_WORDS * count, PLAN_WORDS);
-    print::label(print::BLANK);
-    print::kept(plan, PLAN_WORDS);
+    print::answer(rt, print::COST, cost.number, cost.place)?;
+    print::number(rt, cost.cost)?;
+    print::label(rt, print::BLANK)?;
+    print_rows(rt, plan, MOST_ROWS)?;
+    print::clean(rt, plan, 1 + ROW_WORDS * count, PLAN_WORDS)?;
+    print::label(rt, print::BLANK)?;
+    print::kept(rt, plan, PLAN_WORDS)
 }
 
-fn compile_on(formula: &[u8], start: u64, step: u64, held: usize, plan: &mut [u64])
+fn compile_on(
+    rt: &impl Print,
+    formula: &[u8],
+    start: u64,
+    step: u64,
+    held: usize,
+    plan: &mut [u64],
+) -> io::Result<()>
     requires { held ≤ length plan.old }
 {
     words::paint(plan);
     let answer = compiled(formula, start, step, &mut plan[0..held]);
-    print::label(print::TAB);
-    print::answer(print::COMPILE, answer.number, answer.place);
-    print_plan(answer.number, plan);
+    print::label(rt, print::TAB)?;
+    print::answer(rt, print::COMPILE, answer.number, answer.place)?;
+    print_plan(rt, answer.number, plan)
 }
 
 // Does what a token says, and answers how many words of the plan are lent from then on.
@@ -135,47 +150,61 @@ fn compile_on(formula: &[u8], start: u64, step: u64, held: usize, plan: &mut [u6
 // and 1,1,0,5,2. #2816 lends 2,816 words; 2,817 are lent where nothing is said. t10,15 asks for soundness and cost and fills a table of 10
 // words on a budget of 15, which is 999 where it is left out; e10,15 fills with era count. s prints the spans of the rows. =x^3 compiles a
 // formula, and g5,2:x^3 does on a grid with start 5 and step 2.
-fn step(token: &[u8], lent: usize, plan: &mut [u64], table: &mut [u64]) -> usize {
+fn step(
+    rt: &impl Print,
+    token: &[u8],
+    lent: usize,
+    plan: &mut [u64],
+    table: &mut [u64],
+) -> io::Result<usize> {
     let held = words::at_most(lent, plan.len());
     match formula_digits::byte_at(token, 0) {
         b'#' => {
-            return text::number(token, 0) as usize;
+            return Ok(text::number(token, 0) as usize);
         }
         b'@' => rows::plant(token, plan),
-        b't' => fill(token, held, plan, table),
-        b'e' => eras::fill(token, held, plan, table),
-        b's' => print_spans(plan),
+        b't' => fill(rt, token, held, plan, table)?,
+        b'e' => eras::fill(rt, token, held, plan, table)?,
+        b's' => print_spans(rt, plan)?,
         b'p' => {
             rows::add(b"0,0,0,3", plan);
             rows::add(b"1,1,0,5,2", plan);
         }
-        b'=' => compile_on(text::after(token, b'='), 0, 1, held, plan),
+        b'=' => compile_on(rt, text::after(token, b'='), 0, 1, held, plan)?,
         b'g' => {
             let grid = rows::grid_of(token);
-            compile_on(text::after(token, b':'), grid.start, grid.step, held, plan);
+            compile_on(
+                rt,
+                text::after(token, b':'),
+                grid.start,
+                grid.step,
+                held,
+                plan,
+            )?;
         }
         _ => rows::add(token, plan),
     }
-    lent
+    Ok(lent)
 }
 
 // The line is the case's name too; its tokens have their repeats written out.
-pub fn run(line: &[u8], tokens: &[u8]) {
+pub fn run(rt: &impl Print, line: &[u8], tokens: &[u8]) -> io::Result<()> {
     let mut plan = [0u64; 3000];
     let mut table = [words::UNREAD; 4096];
     let mut lent = PLAN_WORDS;
     let mut at = 0;
-    print::label(print::PLAN);
-    print::text(line);
+    print::label(rt, print::PLAN)?;
+    print::text(rt, line)?;
     while at < tokens.len() {
         let blank = text::cut(tokens, at, b' ');
         lent = step(
+            rt,
             text::part(tokens, at, blank.end),
             lent,
             &mut plan,
             &mut table,
-        );
+        )?;
         at = blank.after;
     }
-    print::label(print::LINE);
+    print::label(rt, print::LINE)
 }

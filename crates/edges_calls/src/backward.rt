@@ -4,6 +4,7 @@ use crate::chains;
 use crate::chains::Stack;
 use chain::ChainAnswer;
 use edges_print as print;
+use std::io;
 
 // The letter I takes a forward chain one index back, i a backward one; e shifts a backward chain; B makes a forward chain a backward one, F a backward chain a
 // forward one.
@@ -51,37 +52,38 @@ fn present(f: ChainAnswer) -> chain::ValueAnswer {
 }
 
 // number place word
-pub fn value(name: &[u8], body: &[u8]) {
+pub fn value(rt: &impl Print, name: &[u8], body: &[u8]) -> io::Result<()> {
     let answer = present(chains::work(body));
-    print::text(name);
-    print::answer(print::TAB, answer.number, answer.place);
-    print::number(answer.word);
-    print::label(print::LINE);
+    print::text(rt, name)?;
+    print::answer(rt, print::TAB, answer.number, answer.place)?;
+    print::number(rt, answer.word)?;
+    print::label(rt, print::LINE)
 }
 
 // value,value,.. at 20 indices: the present value, and then what the letter makes of the chain, in turn
-fn list(letter: u8, given: ChainAnswer) {
+fn list(rt: &impl Print, letter: u8, given: ChainAnswer) -> io::Result<()> {
     let mut f = given;
     let mut i = 0;
     while i < 20 {
         let present = present(f);
-        print::element(present.word, i);
+        print::element(rt, present.word, i)?;
         let next = changed(letter, f);
         f = next;
         i += 1;
     }
+    Ok(())
 }
 
 // The values of a forward chain from now back, those of its backward chain, and those of the backward chain from now on.
-pub fn walk(name: &[u8], body: &[u8]) {
+pub fn walk(rt: &impl Print, name: &[u8], body: &[u8]) -> io::Result<()> {
     let forward = chains::work(body);
     let backward = changed(b'B', forward);
-    print::text(name);
-    print::label(print::TAB);
-    list(b'I', forward);
-    print::label(print::BLANK);
-    list(b'i', backward);
-    print::label(print::BLANK);
-    list(b'e', backward);
-    print::label(print::LINE);
+    print::text(rt, name)?;
+    print::label(rt, print::TAB)?;
+    list(rt, b'I', forward)?;
+    print::label(rt, print::BLANK)?;
+    list(rt, b'i', backward)?;
+    print::label(rt, print::BLANK)?;
+    list(rt, b'e', backward)?;
+    print::label(rt, print::LINE)
 }

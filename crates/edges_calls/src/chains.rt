@@ -4,6 +4,7 @@ use crate::backward;
 use chain::ChainAnswer;
 use edges_print as print;
 use edges_text::{text, words};
+use std::io;
 
 // 17 words with no pattern each: m7 is the chain of length 7 that M begins with, o7 the same of O.
 const M: [u64; 17] = [
@@ -173,46 +174,46 @@ pub fn work(tokens: &[u8]) -> ChainAnswer {
 }
 
 // number place length elements, and whether the words past the length are clean
-pub fn print(name: &[u8], f: ChainAnswer) {
+pub fn print(rt: &impl Print, name: &[u8], f: ChainAnswer) -> io::Result<()> {
     let list = f.elements;
     let count = words::at_most(f.length, 16) + 1;
-    print::text(name);
-    print::answer(print::TAB, f.number, f.place);
-    print::number(f.length as u64);
-    print::label(print::BLANK);
-    print::list(&list, count);
-    print::clean(&list, count, 17);
-    print::label(print::LINE);
+    print::text(rt, name)?;
+    print::answer(rt, print::TAB, f.number, f.place)?;
+    print::number(rt, f.length as u64)?;
+    print::label(rt, print::BLANK)?;
+    print::list(rt, &list, count)?;
+    print::clean(rt, &list, count, 17)?;
+    print::label(rt, print::LINE)
 }
 
 // number place word
-pub fn value(name: &[u8], body: &[u8]) {
+pub fn value(rt: &impl Print, name: &[u8], body: &[u8]) -> io::Result<()> {
     let answer = present(work(body));
-    print::text(name);
-    print::answer(print::TAB, answer.number, answer.place);
-    print::number(answer.word);
-    print::label(print::LINE);
+    print::text(rt, name)?;
+    print::answer(rt, print::TAB, answer.number, answer.place)?;
+    print::number(rt, answer.word)?;
+    print::label(rt, print::LINE)
 }
 
 // value,value,.. at the first 20 indices: the present value and a shift in turn
-pub fn sequence(name: &[u8], body: &[u8]) {
-    print::text(name);
-    print::label(print::TAB);
+pub fn sequence(rt: &impl Print, name: &[u8], body: &[u8]) -> io::Result<()> {
+    print::text(rt, name)?;
+    print::label(rt, print::TAB)?;
     let mut f = work(body);
     let mut i = 0;
     while i < 20 {
         let present = present(f);
-        print::element(present.word, i);
+        print::element(rt, present.word, i)?;
         let next = shifted(f);
         f = next;
         i += 1;
     }
-    print::label(print::LINE);
+    print::label(rt, print::LINE)
 }
 
 // The chain of a list of coefficients, which may be empty or have more than 17 words.
-pub fn list(name: &[u8], body: &[u8]) {
+pub fn list(rt: &impl Print, name: &[u8], body: &[u8]) -> io::Result<()> {
     let mut words = [0u64; 64];
     let count = words::put_list(body, 0, &mut words, 0);
-    print(name, of_coefficients(&words, count));
+    print(rt, name, of_coefficients(&words, count))
 }

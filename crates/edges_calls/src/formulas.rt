@@ -6,64 +6,65 @@ ghost use Rattle.formula.specs.Words.{most_nodes};
 use edges_print as print;
 use edges_text::{text, words};
 use formula::{MOST_NODES, TREE_WORDS};
+use std::io;
 
 const LENT_WORDS: usize = TREE_WORDS + 1;
 
 // kind word, kind word, ..
-fn nodes(tree: &[u64], count: usize)
+fn nodes(rt: &impl Print, tree: &[u64], count: usize) -> io::Result<()>
     requires { count ≤ most_nodes }
 {
     let mut i = 0;
     while i < count {
         if 0 < i {
-            print::label(print::COMMA);
+            print::label(rt, print::COMMA)?;
         }
-        print::label(print::BLANK);
-        print::number(words::word_at(tree, 1 + 2 * i));
-        print::label(print::BLANK);
-        print::number(words::word_at(tree, 2 + 2 * i));
+        print::label(rt, print::BLANK)?;
+        print::number(rt, words::word_at(tree, 1 + 2 * i))?;
+        print::label(rt, print::BLANK)?;
+        print::number(rt, words::word_at(tree, 2 + 2 * i))?;
         i += 1;
     }
+    Ok(())
 }
 
 // Of an accepted formula count: kind word, kind word, .. and whether the rest of the 257 words is clean and those after them stayed; of a
 // refused one whether all words stayed.
-fn print_tree(number: u64, tree: &[u64]) {
+fn print_tree(rt: &impl Print, number: u64, tree: &[u64]) -> io::Result<()> {
     if number != 0 {
-        print::kept(tree, 0);
-        return;
+        return print::kept(rt, tree, 0);
     }
     let counted = words::word_at(tree, 0);
     let count = words::at_most(counted as usize, MOST_NODES);
-    print::number(counted);
-    print::label(print::COLON);
-    nodes(tree, count);
-    print::clean(tree, 1 + 2 * count, TREE_WORDS);
-    print::label(print::BLANK);
-    print::kept(tree, TREE_WORDS);
+    print::number(rt, counted)?;
+    print::label(rt, print::COLON)?;
+    nodes(rt, tree, count)?;
+    print::clean(rt, tree, 1 + 2 * count, TREE_WORDS)?;
+    print::label(rt, print::BLANK)?;
+    print::kept(rt, tree, TREE_WORDS)
 }
 
-fn read(formula: &[u8], count: usize, tree: &mut [u64])
+fn read(rt: &impl Print, formula: &[u8], count: usize, tree: &mut [u64]) -> io::Result<()>
     requires { count ≤ length tree.old }
 {
     words::paint(tree);
     let answer = formula_read::read(formula, &mut tree[0..count]);
-    print::answer(print::TAB, answer.number, answer.place);
-    print_tree(answer.number, tree);
-    print::label(print::LINE);
+    print::answer(rt, print::TAB, answer.number, answer.place)?;
+    print_tree(rt, answer.number, tree)?;
+    print::label(rt, print::LINE)
 }
 
 // The case says how many words are lent, or nothing.
-pub fn reading(name: &[u8], formula: &[u8], lent: &[u8]) {
+pub fn reading(rt: &impl Print, name: &[u8], formula: &[u8], lent: &[u8]) -> io::Result<()> {
     let mut tree = [0u64; LENT_WORDS];
     let mut count = LENT_WORDS;
-    print::label(print::READ);
-    print::text(name);
+    print::label(rt, print::READ)?;
+    print::text(rt, name)?;
     if 0 < lent.len() {
-        print::label(print::INTO);
-        print::text(lent);
-        print::label(print::WORDS);
+        print::label(rt, print::INTO)?;
+        print::text(rt, lent)?;
+        print::label(rt, print::WORDS)?;
         count = text::number(lent, 0) as usize;
     }
-    read(formula, words::at_most(count, LENT_WORDS), &mut tree);
+    read(rt, formula, words::at_most(count, LENT_WORDS), &mut tree)
 }

@@ -2,13 +2,14 @@
 // What is printed is the refusal's number and place, the offset and the verdict.
 use edges_print as print;
 use edges_text::text;
+use std::io;
 
-pub fn signed(offset: i64) {
+pub fn signed(rt: &impl Print, offset: i64) -> io::Result<()> {
     if offset < 0 {
-        print::label(print::MINUS);
-        print::number((-1 - offset) as u64 + 1);
+        print::label(rt, print::MINUS)?;
+        print::number(rt, (-1 - offset) as u64 + 1)
     } else {
-        print::number(offset as u64);
+        print::number(rt, offset as u64)
     }
 }
 
@@ -22,7 +23,7 @@ fn verdict_text(verdict: probe::Verdict) -> usize {
     }
 }
 
-pub fn offset(name: &[u8], body: &[u8]) {
+pub fn offset(rt: &impl Print, name: &[u8], body: &[u8]) -> io::Result<()> {
     let rest = text::after(body, b',');
     let answer = probe::probe(
         text::number(text::before(body, b','), 0),
@@ -30,9 +31,9 @@ pub fn offset(name: &[u8], body: &[u8]) {
         text::number(text::after(rest, b','), 0),
     );
     let verdict = answer.verdict;
-    print::text(name);
-    print::answer(print::TAB, answer.number, answer.place);
-    signed(answer.offset);
-    print::label(verdict_text(verdict));
-    print::label(print::LINE);
+    print::text(rt, name)?;
+    print::answer(rt, print::TAB, answer.number, answer.place)?;
+    signed(rt, answer.offset)?;
+    print::label(rt, verdict_text(verdict))?;
+    print::label(rt, print::LINE)
 }

@@ -1,7 +1,9 @@
 // Printing: fixed texts by their numbers, words, and lists of words.
 // Which answers there are is up to `edges_calls` and `edges`.
+#![tactic(auto)]
+
 use edges_text::{text, words};
-use libc::STDOUT_FILENO;
+use std::io;
 
 // The places of the texts in `label`.
 pub const TAB: usize = 0;
@@ -74,16 +76,16 @@ pub const NOT_DONE: usize = 33;
 
 pub const UNSET: usize = 34;
 
-pub fn text(bytes: &[u8]) {
-    io::write_all(STDOUT_FILENO, bytes);
+pub fn text(rt: &impl Print, bytes: &[u8]) -> io::Result<()> {
+    rt.write_all(bytes)
 }
 
-pub fn number(word: u64) {
-    io::print_decimal(STDOUT_FILENO, word);
+pub fn number(rt: &impl Print, word: u64) -> io::Result<()> {
+    rt.print(word)
 }
 
 // One of the fixed texts, which are parted by bars.
-pub fn label(n: usize) {
+pub fn label(rt: &impl Print, n: usize) -> io::Result<()> {
     let texts: &[u8] =
         b"\t|\n| |,|:|-| clean| dirty|kept|changed|read | into | words|sound |cost |fill | table | sum |plan |compile |grid \
 |rows |values | differs| none| within| ahead| behind|no such section\n|the input is longer than 65535 bytes\n|jobs | of | bytes/| not done| unset|";
@@ -92,54 +94,55 @@ pub fn label(n: usize) {
     while at < texts.len() {
         let bar = text::cut(texts, at, b'|');
         if left == 0 {
-            text(text::part(texts, at, bar.end));
-            return;
+            return text(rt, text::part(texts, at, bar.end));
         }
         left -= 1;
         at = bar.after;
     }
+    Ok(())
 }
 
 // A text, the refusal's number and its place, with a blank after each number.
-pub fn answer(n: usize, refusal: u64, place: u64) {
-    label(n);
-    number(refusal);
-    label(BLANK);
-    number(place);
-    label(BLANK);
+pub fn answer(rt: &impl Print, n: usize, refusal: u64, place: u64) -> io::Result<()> {
+    label(rt, n)?;
+    number(rt, refusal)?;
+    label(rt, BLANK)?;
+    number(rt, place)?;
+    label(rt, BLANK)
 }
 
 // Whether the words from a place up to an end are 0.
-pub fn clean(list: &[u64], from: usize, end: usize) {
+pub fn clean(rt: &impl Print, list: &[u64], from: usize, end: usize) -> io::Result<()> {
     if words::is_painted(list, from, end, 0) {
-        label(CLEAN);
+        label(rt, CLEAN)
     } else {
-        label(DIRTY);
+        label(rt, DIRTY)
     }
 }
 
 // Whether the words from a place on are as they were painted.
-pub fn kept(list: &[u64], from: usize) {
+pub fn kept(rt: &impl Print, list: &[u64], from: usize) -> io::Result<()> {
     if words::is_painted(list, from, list.len(), 1) {
-        label(KEPT);
+        label(rt, KEPT)
     } else {
-        label(CHANGED);
+        label(rt, CHANGED)
     }
 }
 
 // Element i of a list, after a comma where it is not the first.
-pub fn element(word: u64, i: usize) {
+pub fn element(rt: &impl Print, word: u64, i: usize) -> io::Result<()> {
     if 0 < i {
-        label(COMMA);
+        label(rt, COMMA)?;
     }
-    number(word);
+    number(rt, word)
 }
 
 // So many words, parted by commas.
-pub fn list(list: &[u64], count: usize) {
+pub fn list(rt: &impl Print, list: &[u64], count: usize) -> io::Result<()> {
     let mut i = 0;
     while i < count {
-        element(words::word_at(list, i), i);
+        element(rt, words::word_at(list, i), i)?;
         i += 1;
     }
+    Ok(())
 }

@@ -8,8 +8,7 @@ ghost use Rattle.otterchime.specs.Answers.{chain_words, value_words};
 use crate::chains::{CHAIN_ANSWER, put};
 
 // A forward chain one index back.
-#[unsafe(no_mangle)]
-pub extern "C" fn otterchime_inverse_shift(f: &[u64; 17], k: u64, answer: &mut [u64; CHAIN_ANSWER])
+pub fn otterchime_inverse_shift(f: &[u64; 17], k: u64, answer: &mut [u64; CHAIN_ANSWER])
     ensures { answer.new ≡ chain_words (answered (inverse_shift_outcome 64 f.now k)) }
 {
     let r = chain_backward::inverse_shift(*f, k as usize);
@@ -17,8 +16,7 @@ pub extern "C" fn otterchime_inverse_shift(f: &[u64; 17], k: u64, answer: &mut [
 }
 
 // A backward chain's word at the present point.
-#[unsafe(no_mangle)]
-pub extern "C" fn otterchime_backward_value(f: &[u64; 17], k: u64, answer: &mut [u64; 3])
+pub fn otterchime_backward_value(f: &[u64; 17], k: u64, answer: &mut [u64; 3])
     ensures { answer.new ≡ value_words (value_answer f.now k) }
 {
     let r = chain_backward::backward_value(*f, k as usize);
@@ -26,8 +24,7 @@ pub extern "C" fn otterchime_backward_value(f: &[u64; 17], k: u64, answer: &mut 
 }
 
 // A backward chain after one shift.
-#[unsafe(no_mangle)]
-pub extern "C" fn otterchime_backward_shift(f: &[u64; 17], k: u64, answer: &mut [u64; CHAIN_ANSWER])
+pub fn otterchime_backward_shift(f: &[u64; 17], k: u64, answer: &mut [u64; CHAIN_ANSWER])
     ensures { answer.new ≡ chain_words (answered (backward_shift_outcome 64 f.now k)) }
 {
     let r = chain_backward::backward_shift(*f, k as usize);
@@ -35,12 +32,7 @@ pub extern "C" fn otterchime_backward_shift(f: &[u64; 17], k: u64, answer: &mut 
 }
 
 // A backward chain one index back.
-#[unsafe(no_mangle)]
-pub extern "C" fn otterchime_backward_inverse_shift(
-    f: &[u64; 17],
-    k: u64,
-    answer: &mut [u64; CHAIN_ANSWER],
-)
+pub fn otterchime_backward_inverse_shift(f: &[u64; 17], k: u64, answer: &mut [u64; CHAIN_ANSWER])
     ensures { answer.new ≡ chain_words (answered (backward_inverse_shift_outcome 64 f.now k)) }
 {
     let r = chain_backward::backward_inverse_shift(*f, k as usize);
@@ -48,8 +40,7 @@ pub extern "C" fn otterchime_backward_inverse_shift(
 }
 
 // The sum of two backward chains.
-#[unsafe(no_mangle)]
-pub extern "C" fn otterchime_backward_sum(
+pub fn otterchime_backward_sum(
     f: &[u64; 17],
     k: u64,
     g: &[u64; 17],
@@ -63,8 +54,7 @@ pub extern "C" fn otterchime_backward_sum(
 }
 
 // The product of two backward chains, refused 15 where their trimmed lengths add over 16.
-#[unsafe(no_mangle)]
-pub extern "C" fn otterchime_backward_product(
+pub fn otterchime_backward_product(
     f: &[u64; 17],
     k: u64,
     g: &[u64; 17],
@@ -78,8 +68,7 @@ pub extern "C" fn otterchime_backward_product(
 }
 
 // The backward chain that gives what a forward one gives.
-#[unsafe(no_mangle)]
-pub extern "C" fn otterchime_to_backward(f: &[u64; 17], k: u64, answer: &mut [u64; CHAIN_ANSWER])
+pub fn otterchime_to_backward(f: &[u64; 17], k: u64, answer: &mut [u64; CHAIN_ANSWER])
     ensures { answer.new ≡ chain_words (answered (to_backward_outcome 64 f.now k)) }
 {
     let r = chain_backward::to_backward(*f, k as usize);
@@ -87,8 +76,7 @@ pub extern "C" fn otterchime_to_backward(f: &[u64; 17], k: u64, answer: &mut [u6
 }
 
 // The forward chain that gives what a backward one gives.
-#[unsafe(no_mangle)]
-pub extern "C" fn otterchime_to_forward(f: &[u64; 17], k: u64, answer: &mut [u64; CHAIN_ANSWER])
+pub fn otterchime_to_forward(f: &[u64; 17], k: u64, answer: &mut [u64; CHAIN_ANSWER])
     ensures { answer.new ≡ chain_words (answered (to_forward_outcome 64 f.now k)) }
 {
     let r = chain_backward::to_forward(*f, k as usize);

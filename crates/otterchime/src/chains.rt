@@ -14,10 +14,10 @@ pub const CHAIN_ANSWER: usize = 20;
 const ANSWER_ELEMENTS: usize = 3;
 
 // The words of a shift's answer: the chain, and behind it the crossing.
-const SHIFT_ANSWER: usize = 21;
+pub const SHIFT_ANSWER: usize = 21;
 
 // An answer that is a chain: number, place, length, and the elements.
-pub fn put(r: ChainAnswer, answer: &mut [u64])
+pub(crate) fn put(r: ChainAnswer, answer: &mut [u64])
     requires { length answer.old ≡ chain_answer_length }
     ensures { answer.new ≡ chain_words r }
 {
@@ -46,8 +46,7 @@ fn put_shift(r: ShiftAnswer, answer: &mut [u64])
 }
 
 // The chain without its trailing zeros.
-#[unsafe(no_mangle)]
-pub extern "C" fn otterchime_trim(f: &[u64; 17], k: u64, answer: &mut [u64; CHAIN_ANSWER])
+pub fn otterchime_trim(f: &[u64; 17], k: u64, answer: &mut [u64; CHAIN_ANSWER])
     ensures { answer.new ≡ chain_words (answered (trim_outcome f.now k)) }
 {
     let r = chain_calls::trim(*f, k as usize);
@@ -55,8 +54,7 @@ pub extern "C" fn otterchime_trim(f: &[u64; 17], k: u64, answer: &mut [u64; CHAI
 }
 
 // The chain after one shift, and how its first element crossed.
-#[unsafe(no_mangle)]
-pub extern "C" fn otterchime_shift(f: &[u64; 17], k: u64, answer: &mut [u64; SHIFT_ANSWER])
+pub fn otterchime_shift(f: &[u64; 17], k: u64, answer: &mut [u64; SHIFT_ANSWER])
     ensures { answer.new ≡ shift_words (shift_answer 64 f.now k) }
 {
     let r = chain_calls::shift(*f, k as usize);
@@ -64,8 +62,7 @@ pub extern "C" fn otterchime_shift(f: &[u64; 17], k: u64, answer: &mut [u64; SHI
 }
 
 // The chain's word at the present point.
-#[unsafe(no_mangle)]
-pub extern "C" fn otterchime_value(f: &[u64; 17], k: u64, answer: &mut [u64; 3])
+pub fn otterchime_value(f: &[u64; 17], k: u64, answer: &mut [u64; 3])
     ensures { answer.new ≡ value_words (value_answer f.now k) }
 {
     let r = chain_calls::value(*f, k as usize);
@@ -73,8 +70,7 @@ pub extern "C" fn otterchime_value(f: &[u64; 17], k: u64, answer: &mut [u64; 3])
 }
 
 // The sum of two chains.
-#[unsafe(no_mangle)]
-pub extern "C" fn otterchime_sum(
+pub fn otterchime_sum(
     f: &[u64; 17],
     k: u64,
     g: &[u64; 17],
@@ -88,8 +84,7 @@ pub extern "C" fn otterchime_sum(
 }
 
 // The difference of two chains.
-#[unsafe(no_mangle)]
-pub extern "C" fn otterchime_difference(
+pub fn otterchime_difference(
     f: &[u64; 17],
     k: u64,
     g: &[u64; 17],
@@ -103,8 +98,7 @@ pub extern "C" fn otterchime_difference(
 }
 
 // The product of two chains, refused 15 where their trimmed lengths add over 16.
-#[unsafe(no_mangle)]
-pub extern "C" fn otterchime_product(
+pub fn otterchime_product(
     f: &[u64; 17],
     k: u64,
     g: &[u64; 17],
@@ -118,11 +112,7 @@ pub extern "C" fn otterchime_product(
 }
 
 // The chain of the polynomial with these coefficients in the index.
-#[unsafe(no_mangle)]
-pub extern "C" fn otterchime_from_coefficients(
-    coefficients: &[u64],
-    answer: &mut [u64; CHAIN_ANSWER],
-)
+pub fn otterchime_from_coefficients(coefficients: &[u64], answer: &mut [u64; CHAIN_ANSWER])
     ensures { answer.new ≡ chain_words (answered (coefficients_outcome 64 coefficients.now)) }
 {
     let r = chain_coefficients::from_coefficients(coefficients);

@@ -1,8 +1,10 @@
 // The door: the calls on formulas, plans, chains and readings once more, for C, in one style. Numbers and slices come in, and the answer goes into lent words:
 // word 0 the refusal's number, word 1 its place, then the call's own words (specs/Answers.antt).
 // Compiling, filling, explaining and the probe are here, the chain calls in `chains` and `backward`.
-mod backward;
-mod chains;
+#![tactic(auto)]
+
+pub mod backward;
+pub mod chains;
 
 ghost use Rattle.std.specs.Prelude.{◌≡◌};
 ghost use Rattle.plan.specs.Filling.{fill, cost_answer, sound_answer};
@@ -14,8 +16,7 @@ ghost use Rattle.otterchime.specs.Answers.{CompiledInto, ExplainedInto, fill_wor
 use probe::Verdict;
 
 // Compiles a formula's text on a grid into a lent plan of 2,817 words. A refusal alters no word of the plan; words past its own stay.
-#[unsafe(no_mangle)]
-pub extern "C" fn otterchime_compile(
+pub fn otterchime_compile(
     text: &[u8],
     start: u64,
     step: u64,
@@ -29,13 +30,7 @@ pub extern "C" fn otterchime_compile(
 }
 
 // Writes as many points as the table has room and the budget pays for, and leaves the plan shifted by them. A refusal alters neither.
-#[unsafe(no_mangle)]
-pub extern "C" fn otterchime_fill(
-    plan: &mut [u64],
-    table: &mut [u64],
-    budget: u64,
-    answer: &mut [u64; 4],
-)
+pub fn otterchime_fill(plan: &mut [u64], table: &mut [u64], budget: u64, answer: &mut [u64; 4])
     ensures answer_after { answer.new ≡ fill_words (fill 64 plan.old table.old budget).answer }
     ensures table_after { table.new ≡ (fill 64 plan.old table.old budget).table }
     ensures plan_after { plan.new ≡ (fill 64 plan.old table.old budget).plan }
@@ -45,13 +40,7 @@ pub extern "C" fn otterchime_fill(
 }
 
 // The same with the crossings of the root over the points written, added up. Refused 16 where the root is neither a constant nor a sum chain.
-#[unsafe(no_mangle)]
-pub extern "C" fn otterchime_fill_eras(
-    plan: &mut [u64],
-    table: &mut [u64],
-    budget: u64,
-    answer: &mut [u64; 5],
-)
+pub fn otterchime_fill_eras(plan: &mut [u64], table: &mut [u64], budget: u64, answer: &mut [u64; 5])
     ensures answer_after { answer.new ≡ fill_eras_words (fill_eras 64 plan.old table.old budget).answer }
     ensures table_after { table.new ≡ (fill_eras 64 plan.old table.old budget).table }
     ensures plan_after { plan.new ≡ (fill_eras 64 plan.old table.old budget).plan }
@@ -68,8 +57,7 @@ pub extern "C" fn otterchime_fill_eras(
 }
 
 // What a plan costs.
-#[unsafe(no_mangle)]
-pub extern "C" fn otterchime_cost(plan: &[u64], answer: &mut [u64; 3])
+pub fn otterchime_cost(plan: &[u64], answer: &mut [u64; 3])
     ensures { answer.new ≡ cost_words (cost_answer plan.now) }
 {
     let r = plan_costs::cost(plan);
@@ -77,8 +65,7 @@ pub extern "C" fn otterchime_cost(plan: &[u64], answer: &mut [u64; 3])
 }
 
 // Whether a plan is sound: the refusal that it would meet, or 0.
-#[unsafe(no_mangle)]
-pub extern "C" fn otterchime_sound(plan: &[u64], answer: &mut [u64; 2])
+pub fn otterchime_sound(plan: &[u64], answer: &mut [u64; 2])
     ensures { answer.new ≡ sound_words (sound_answer plan.now) }
 {
     let r = plan_sound::sound(plan);
@@ -86,8 +73,7 @@ pub extern "C" fn otterchime_sound(plan: &[u64], answer: &mut [u64; 2])
 }
 
 // Why a row of a plan is still there, and the bytes of the text that it came from. Any word may be a row's number.
-#[unsafe(no_mangle)]
-pub extern "C" fn otterchime_reason(plan: &[u64], row: u64, answer: &mut [u64; 5])
+pub fn otterchime_reason(plan: &[u64], row: u64, answer: &mut [u64; 5])
     ensures { ExplainedInto plan.now row answer.new }
 {
     let r = reason_call::reason(plan, row as usize);
@@ -117,13 +103,7 @@ fn verdict_number(verdict: Verdict) -> u64
 }
 
 // How far a reading lies from what was expected, and the verdict on it.
-#[unsafe(no_mangle)]
-pub extern "C" fn otterchime_probe(
-    reading: u64,
-    expected: u64,
-    tolerance: u64,
-    answer: &mut [u64; 4],
-)
+pub fn otterchime_probe(reading: u64, expected: u64, tolerance: u64, answer: &mut [u64; 4])
     ensures { answer.new ≡ probe_words (probe_answer reading expected tolerance) }
 {
     let r = probe::probe(reading, expected, tolerance);

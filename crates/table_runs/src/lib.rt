@@ -1,21 +1,17 @@
-// A whole run of a tool: reads a job file from standard input and writes what the tool prints to standard output.
+// A whole run of a tool: reads a job file and writes what the tool prints to standard output.
 // What a run prints is decided in `table_steps`; here bytes are read and written, and buffers are lent.
-ghost use Rattle.std.specs.Prelude.{◌≡◌, true, ◌+◌, ◌≤◌, length};
+#![tactic(auto)]
 
-use libc::{STDIN_FILENO, STDOUT_FILENO};
+ghost use Rattle.std.specs.Prelude.{◌≡◌, true, ◌+◌, ◌≤◌, length, IfOk};
+
 use plan::PLAN_WORDS;
+use std::io;
+use std::io::Read;
 use table::Tool;
 use table_progress::{Progress, Stepped};
 
 // The room that a step asks for in the output buffer.
 const MOST_PRINTED: usize = 172166;
-
-// Whether the writing goes on, and how much of the output buffer is filled.
-#[derive(Clone, Copy)]
-struct Room {
-    ok: bool,
-    filled: usize,
-}
 
 // Whether the run goes on, where it stands, how much input the last step used, and how much of the output buffer is filled.
 #[derive(Clone, Copy)]
@@ -26,36 +22,51 @@ struct Going {
     filled: usize,
 }
 
-// Writes the bytes. A failure is told on standard error.
-fn write(bytes: &[u8]) -> bool {
-    let is_written = io::write_all(STDOUT_FILENO, bytes);
-    if !is_written {
-        os::fail(&[b'w', b'r', b'i', b't', b'e']);
-    }
-    is_written
+// Tells on standard error what failed, and why.
+fn tell(rt: &impl Eprint, what: &str, error: io::Error) {
+    let _ = eprintln!(rt; "{what}: {error}");
 }
 
-// Reads into the buffer: how many bytes came, 0 at the end of the input. A failure is told on standard error and ends the input.
-fn read(input: &mut [u8]) -> usize
+// Writes the bytes. A failure is told on standard error.
+fn write<R: Print + Eprint>(rt: &R, bytes: &[u8]) -> io::Result<()> {
+    match rt.write_all(bytes) {
+        Ok(()) => Ok(()),
+        Err(error) => {
+            tell(rt, "write", error);
+            Err(error)
+        }
+    }
+}
+
+// Reads into the buffer: how many bytes came, 0 at the end of the input. A failure is told on standard error, kept in `outcome`, and ends the input.
+fn read(
+    rt: &impl Eprint,
+    from: &mut impl Read,
+    input: &mut [u8],
+    outcome: &mut io::Result<()>,
+) -> usize
     ensures { result ≤ length input.new }
 {
-    let got = libc::read(STDIN_FILENO, input);
-    if got < 0 {
-        os::fail(&[b'r', b'e', b'a', b'd']);
+    match from.read(input) {
+        Ok(got) => got,
+        Err(error) => {
+            tell(rt, "read", error);
+            *outcome = Err(error);
+            0
+        }
     }
-    io::count(got, input)
 }
 
-// Writes what fills the output buffer where a step would find too little room behind it.
-fn make_room(out: &[u8], filled: usize) -> Room
+// Writes what fills the output buffer where a step would find too little room behind it, and answers how much of it is filled then.
+fn make_room<R: Print + Eprint>(rt: &R, out: &[u8], filled: usize) -> io::Result<usize>
     requires { filled ≤ length out.now }
-    ensures { result.filled ≤ length out.now }
+    ensures { IfOk result (λ left. left ≤ length out.now) }
 {
     if MOST_PRINTED <= out.len() - filled {
-        return Room { ok: true, filled };
+        return Ok(filled);
     }
-    let ok = write(&out[0..filled]);
-    Room { ok, filled: 0 }
+    write(rt, &out[0..filled])?;
+    Ok(0)
 }
 
 // A step of the run that writes behind the filled part of the output buffer.
@@ -103,7 +114,8 @@ fn finish(
 }
 
 // A step with room made for it.
-fn turn(
+fn turn<R: Print + Eprint>(
+    rt: &R,
     tool: Tool,
     going: Going,
     input: &[u8],
@@ -112,38 +124,30 @@ fn turn(
     plan: &mut [u64],
     table: &mut [u64],
     out: &mut [u8],
-) -> Going
+) -> io::Result<Going>
     requires { going.filled ≤ length out.old }
-    ensures filled_in_bounds { result.filled ≤ length out.new }
-    ensures used_in_bounds { result.used ≤ length input.now }
-    ensures le_used { result.ok ≡ true → 1 ≤ length input.now → 1 ≤ result.used }
+    ensures filled_in_bounds { IfOk result (λ next. next.filled ≤ length out.new) }
+    ensures used_in_bounds { IfOk result (λ next. next.used ≤ length input.now) }
+    ensures le_used { IfOk result (λ next. next.ok ≡ true → 1 ≤ length input.now → 1 ≤ next.used) }
 {
     let progress = going.progress;
-    let room = make_room(out, going.filled);
-    let begin = room.filled;
-    if !room.ok {
-        return Going {
-            ok: false,
-            progress,
-            used: 0,
-            filled: begin,
-        };
-    }
+    let begin = make_room(rt, out, going.filled)?;
     let stepped = step(
         tool, progress, begin, input, line, defaults, plan, table, out,
     );
     let reached = stepped.progress;
     let filled = begin + stepped.wrote;
-    Going {
+    Ok(Going {
         ok: stepped.ok,
         progress: reached,
         used: stepped.used,
         filled,
-    }
+    })
 }
 
 // All steps over some input, and what they print written.
-fn take(
+fn take<R: Print + Eprint>(
+    rt: &R,
     tool: Tool,
     progress: Progress,
     input: &[u8],
@@ -152,7 +156,7 @@ fn take(
     plan: &mut [u64],
     table: &mut [u64],
     out: &mut [u8],
-) -> Going {
+) -> io::Result<Going> {
     let mut going = Going {
         ok: true,
         progress,
@@ -161,25 +165,37 @@ fn take(
     };
     let mut at = 0;
     while at < input.len() {
-        let next = turn(tool, going, &input[at..], line, defaults, plan, table, out);
+        let next = turn(
+            rt,
+            tool,
+            going,
+            &input[at..],
+            line,
+            defaults,
+            plan,
+            table,
+            out,
+        )?;
         if !next.ok {
-            return next;
+            return Ok(next);
         }
         going = next;
         at += next.used;
     }
     let reached = going.progress;
     let filled = going.filled;
-    Going {
-        ok: write(&out[0..filled]),
+    write(rt, &out[0..filled])?;
+    Ok(Going {
+        ok: true,
         progress: reached,
         used: at,
         filled: 0,
-    }
+    })
 }
 
 // The end of the input, and what it prints written.
-fn end(
+fn end<R: Print + Eprint>(
+    rt: &R,
     tool: Tool,
     progress: Progress,
     line: &[u8],
@@ -187,15 +203,17 @@ fn end(
     plan: &mut [u64],
     table: &mut [u64],
     out: &mut [u8],
-) {
+) -> io::Result<()> {
     let last = finish(tool, progress, line, defaults, plan, table, out);
     let wrote = last.wrote;
-    write(&out[0..wrote]);
+    write(rt, &out[0..wrote])
 }
 
 // Reads to the end of the input or until a write fails. Before it reads, and perhaps waits, all that the input so far prints is written. A proved loop has
 // to end, and nothing says that an input does: the loop counts its turns down, from a number that no run uses up.
-fn read_and_write(
+fn read_and_write<R: Print + Eprint>(
+    rt: &R,
+    from: &mut impl Read,
     tool: Tool,
     input: &mut [u8],
     line: &mut [u8],
@@ -203,12 +221,14 @@ fn read_and_write(
     plan: &mut [u64],
     table: &mut [u64],
     out: &mut [u8],
-) {
+) -> io::Result<()> {
+    let mut outcome = Ok(());
     let mut progress = table_steps::start();
-    let mut got = read(input);
+    let mut got = read(rt, from, input, &mut outcome);
     let mut turns = u64::MAX;
     while got > 0 && turns > 0 {
         let next = take(
+            rt,
             tool,
             progress,
             &input[0..got],
@@ -217,27 +237,30 @@ fn read_and_write(
             plan,
             table,
             out,
-        );
+        )?;
         if !next.ok {
-            return;
+            return Ok(());
         }
         let reached = next.progress;
         progress = reached;
-        got = read(input);
+        got = read(rt, from, input, &mut outcome);
         turns -= 1;
     }
-    end(tool, progress, line, defaults, plan, table, out);
+    end(rt, tool, progress, line, defaults, plan, table, out)?;
+    outcome
 }
 
-// A run with buffers of its own.
-pub fn run(tool: Tool) {
-    let mut input = io::large_buffer();
+// A run with buffers of its own. A read or a write that fails is its answer too.
+pub fn run<R: Print + Eprint>(rt: &R, from: &mut impl Read, tool: Tool) -> io::Result<()> {
+    let mut input = [0u8; 65536];
     let mut line = [0u8; 4097];
     let mut defaults = [0u8; 4096];
     let mut plan = [0u64; PLAN_WORDS];
     let mut table = [0u64; 4096];
     let mut out = [0u8; 262144];
     read_and_write(
+        rt,
+        from,
         tool,
         &mut input,
         &mut line,
@@ -245,5 +268,5 @@ pub fn run(tool: Tool) {
         &mut plan,
         &mut table,
         &mut out,
-    );
+    )
 }

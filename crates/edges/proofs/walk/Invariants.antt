@@ -3,7 +3,7 @@ use Rattle.std.proofs.Common.{◌-◌, length, rules}
 use Rattle.edges.proofs.walk.Given as goal
 
 abbrev pub invariant-loop-at : goal.invariant-loop-at
-invariant-loop-at l = Unit {0}
+invariant-loop-at g l = Unit {0}
 
 abbrev pub decreases-loop-at : goal.decreases-loop-at
-decreases-loop-at l = length l.input - l.at
+decreases-loop-at g l = length l.input - l.at

@@ -5,7 +5,7 @@ use Rattle.plan.specs.Measures.{most_rows}
 use Rattle.edges_reasons.proofs.ask_all.Given as goal
 
 abbrev pub invariant-loop-row : goal.invariant-loop-row
-invariant-loop-row l = l.last ≤ most_rows
+invariant-loop-row g l = l.last ≤ most_rows
 
 abbrev pub decreases-loop-row : goal.decreases-loop-row
-decreases-loop-row l = (1 + l.last) - l.row
+decreases-loop-row g l = (1 + l.last) - l.row

@@ -6,7 +6,7 @@ use borrow.Author.Rules.{rules}
 use Rattle.edges_reasons.proofs.run.Given as goal
 
 abbrev pub invariant-loop-at : goal.invariant-loop-at
-invariant-loop-at l = length l.plan ≡ 3000
+invariant-loop-at g l = length l.plan ≡ 3000
 
 abbrev pub decreases-loop-at : goal.decreases-loop-at
-decreases-loop-at l = length l.tokens - l.at
+decreases-loop-at g l = length l.tokens - l.at

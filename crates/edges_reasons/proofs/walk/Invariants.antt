@@ -5,7 +5,7 @@ use borrow.Author.Rules.{rules}
 use Rattle.edges_reasons.proofs.walk.Given as goal
 
 abbrev pub invariant-loop-at : goal.invariant-loop-at
-invariant-loop-at l = Unit {0}
+invariant-loop-at g l = Unit {0}
 
 abbrev pub decreases-loop-at : goal.decreases-loop-at
-decreases-loop-at l = length l.input - l.at
+decreases-loop-at g l = length l.input - l.at

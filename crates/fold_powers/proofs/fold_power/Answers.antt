@@ -2,7 +2,6 @@
 use native.Mathlib.Omega.{arith}
 use Rattle.fold_operands.proofs.OperandLaws.{operand_some}
 use Rattle.fold_powers.proofs.PowerOperands.{power_of_constant, power_zero, power_one}
-use borrow.Author.Rules.{rules}
 use Rattle.fold_powers.proofs.fold_power.Goals as goal
 
 pub overflow_sub-root : goal.overflow_sub-root

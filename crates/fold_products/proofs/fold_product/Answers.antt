@@ -4,7 +4,6 @@ use native.Mathlib.Omega.{arith}
 use Rattle.fold_operands.proofs.OperandLaws.{operands_some}
 use Rattle.fold_operands.proofs.Leaving.{room_of_both}
 use Rattle.fold_products.proofs.ProductOperands.{products_short, sums_say, one_left, one_right, zero_left, sums_left, products_left, row-left}
-use borrow.Author.Rules.{rules}
 use Rattle.fold_products.proofs.fold_product.Goals as goal
 
 pub overflow_sub-left_root : goal.overflow_sub-left_root

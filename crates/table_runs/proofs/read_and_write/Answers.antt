@@ -7,11 +7,11 @@ use borrow.Author.Rules.{rules}
 use Rattle.table_runs.proofs.read_and_write.Goals as goal
 
 pub loop-got-smaller : goal.loop-got-smaller
-loop-got-smaller c =
+loop-got-smaller g c =
     omega (arith, ltb-true 0 c.loop-got.turns c.if-turns-gt0.true)
 
 pub loop-got-preserved : goal.loop-got-preserved
-loop-got-preserved c =
+loop-got-preserved g c =
     let kept = c.take-next.auto in
     let inv = c.loop-got.invariant in (
       c.read-got-in-loop-got.ensures,

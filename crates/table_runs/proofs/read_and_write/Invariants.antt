@@ -8,9 +8,9 @@ use borrow.Author.Rules.{rules}
 use Rattle.table_runs.proofs.read_and_write.Given as goal
 
 abbrev pub invariant-loop-got : goal.invariant-loop-got
-invariant-loop-got l =
+invariant-loop-got g l =
     (l.got ≤ length l.input) × (length l.input ≡ length l.initial.input) × (length l.line ≡ length l.initial.line) × (length l.defaults ≡ length l.initial.defaults)
     × (length l.plan ≡ length l.initial.plan) × (length l.table ≡ length l.initial.table) × (length l.out ≡ length l.initial.out)
 
 abbrev pub decreases-loop-got : goal.decreases-loop-got
-decreases-loop-got l = l.turns
+decreases-loop-got g l = l.turns

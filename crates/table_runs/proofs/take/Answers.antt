@@ -7,7 +7,7 @@ use borrow.Author.Rules.{rules}
 use Rattle.table_runs.proofs.take.Goals as goal
 
 -- GONE overflow-add-at
--- 
+--
 --     let turned = c.before.before.before.before.before.before.before.before.before.before.before.before.before in
 --     omega (
 --       arith,
@@ -16,6 +16,6 @@ use Rattle.table_runs.proofs.take.Goals as goal
 --     )
 
 pub loop-at-smaller : goal.loop-at-smaller
-loop-at-smaller c =
+loop-at-smaller g c =
     let done = c.turn-next.ensures in
     omega (arith, done.used_in_bounds, done.le_used (not-false _ c.if-not-next.false) (omega arith))

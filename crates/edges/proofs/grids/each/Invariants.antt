@@ -3,7 +3,7 @@ use Rattle.std.proofs.Common.{◌-◌, rules}
 use Rattle.edges.proofs.grids.each.Given as goal
 
 abbrev pub invariant-loop-i : goal.invariant-loop-i
-invariant-loop-i l = Unit {0}
+invariant-loop-i g l = Unit {0}
 
 abbrev pub decreases-loop-i : goal.decreases-loop-i
-decreases-loop-i l = 36 - l.i
+decreases-loop-i g l = 36 - l.i

@@ -4,7 +4,7 @@ use Rattle.plan.specs.Measures.{rows_length}
 use Rattle.edges.proofs.plans.print_rows.Given as goal
 
 abbrev pub invariant-loop-i : goal.invariant-loop-i
-invariant-loop-i l = l.words ≤ rows_length
+invariant-loop-i g l = l.words ≤ rows_length
 
 abbrev pub decreases-loop-i : goal.decreases-loop-i
-decreases-loop-i l = l.words - l.i
+decreases-loop-i g l = l.words - l.i

@@ -4,7 +4,7 @@ use Rattle.plan.specs.Measures.{most_rows}
 use Rattle.edges.proofs.plans.print_spans.Given as goal
 
 abbrev pub invariant-loop-r : goal.invariant-loop-r
-invariant-loop-r l = l.count ≤ most_rows
+invariant-loop-r g l = l.count ≤ most_rows
 
 abbrev pub decreases-loop-r : goal.decreases-loop-r
-decreases-loop-r l = l.count - r
+decreases-loop-r g l = l.count - r

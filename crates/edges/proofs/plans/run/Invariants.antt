@@ -3,7 +3,7 @@ use Rattle.std.proofs.Common.{◌≡◌, ◌-◌, length, rules}
 use Rattle.edges.proofs.plans.run.Given as goal
 
 abbrev pub invariant-loop-at : goal.invariant-loop-at
-invariant-loop-at l = (length l.plan ≡ 3000) × (length l.table ≡ 4096)
+invariant-loop-at g l = (length l.plan ≡ 3000) × (length l.table ≡ 4096)
 
 abbrev pub decreases-loop-at : goal.decreases-loop-at
-decreases-loop-at l = length l.tokens - l.at
+decreases-loop-at g l = length l.tokens - l.at

@@ -1,5 +1,5 @@
 -- `expand` ends: each token begins after the one before it. Invariant: the lent bytes keep their number.
-use Rattle.std.proofs.Common.{◌≡◌, ◌-◌, length, rules}
+use Rattle.std.proofs.Common.{◌≡◌, ◌-◌, length}
 use Rattle.edges_text.proofs.notation.expand.Given as goal
 
 abbrev pub invariant-loop-at : goal.invariant-loop-at

@@ -1,5 +1,5 @@
 -- `written` is safe and ends: it writes below the length of what is lent. Invariant: the end reached is no less than the first, and the lent bytes keep their number.
-use Rattle.std.proofs.Common.{◌≡◌, ◌-◌, ◌≤◌, length, rules}
+use Rattle.std.proofs.Common.{◌≡◌, ◌-◌, ◌≤◌, length}
 use Rattle.edges_text.proofs.notation.written.Given as goal
 
 abbrev pub invariant-loop-last : goal.invariant-loop-last

@@ -1,13 +1,13 @@
 -- `after` lends what stands after the first mark.
-use Rattle.std.proofs.Common.{◌≡◌, ◌+◌, ◌-◌, length, drop, sym, ap, ◌∙◌, arith, length-drop, drop_of_length-le, take_all, rules}
+use Rattle.std.proofs.Common.{◌+◌, ◌-◌, length, drop, sym, ap, ◌∙◌, arith, length-drop, drop_of_length-le, take_all}
 use Rattle.table.proofs.PartsFound.{found_inside, found_after}
 use Rattle.edges_text.proofs.text.after.Goals as goal
 
--- GONE overflow-sub-result-2
---  omega (arith, c.before.find.ensures, found_inside c.before.before.before.args.mark c.before.before.before.args.text.now 0 (omega arith))
+pub slice_bounds-result-count-2 : goal.slice_bounds-result-count-2
+slice_bounds-result-count-2 c = omega (arith, c.find-end.ensures, found_inside c.args.mark c.args.text.now 0 (omega arith))
 
--- GONE slice-bounds-result-start-2
---  omega (arith, c.before.find.ensures, found_inside c.before.before.before.args.mark c.before.before.before.args.text.now 0 (omega arith))
+pub slice_bounds-result-start-2 : goal.slice_bounds-result-start-2
+slice_bounds-result-start-2 c = omega (arith, c.find-end.ensures, found_inside c.args.mark c.args.text.now 0 (omega arith))
 
 pub returns-then-end-text : goal.returns-then-end-text
 returns-then-end-text c =

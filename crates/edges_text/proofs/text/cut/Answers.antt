@@ -1,5 +1,5 @@
 -- `cut` answers where the first mark from `at` on stands, and a next place after `at`, at most the text's length.
-use Rattle.std.proofs.Common.{◌≡◌, arith, rules}
+use Rattle.std.proofs.Common.{arith}
 use Rattle.table.proofs.PartsFound.{found_inside}
 use Rattle.edges_text.proofs.text.cut.Goals as goal
 

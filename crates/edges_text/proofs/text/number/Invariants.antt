@@ -1,5 +1,5 @@
 -- `number` is safe and ends: it reads below the text's length. Nothing has to hold from turn to turn.
-use Rattle.std.proofs.Common.{◌-◌, length, rules}
+use Rattle.std.proofs.Common.{◌-◌, length}
 use Rattle.edges_text.proofs.text.number.Given as goal
 
 abbrev pub invariant-loop-i : goal.invariant-loop-i

@@ -1,5 +1,5 @@
 -- `part` lends the bytes between two places of a text, or none.
-use Rattle.std.proofs.Common.{◌≡◌, length, arith, rules, le-leb}
+use Rattle.std.proofs.Common.{length, arith, le-leb}
 use borrow.Author.Tests.{lt-leb}
 use Rattle.edges_text.proofs.text.part.Goals as goal
 

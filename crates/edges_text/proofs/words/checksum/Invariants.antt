@@ -1,5 +1,5 @@
 -- `checksum` is safe and ends: it reads below the number of the words. Nothing has to hold from turn to turn.
-use Rattle.std.proofs.Common.{◌-◌, length, rules}
+use Rattle.std.proofs.Common.{◌-◌, length}
 use Rattle.edges_text.proofs.words.checksum.Given as goal
 
 abbrev pub invariant-loop-i : goal.invariant-loop-i

@@ -1,5 +1,5 @@
 -- `is_painted` ends: the index comes nearer to the end. Nothing has to hold from turn to turn.
-use Rattle.std.proofs.Common.{◌-◌, rules}
+use Rattle.std.proofs.Common.{◌-◌}
 use Rattle.edges_text.proofs.words.is_painted.Given as goal
 
 abbrev pub invariant-loop-i : goal.invariant-loop-i

@@ -1,5 +1,5 @@
 -- `paint` is safe and ends: it writes below the number of the words. Invariant: they keep their number.
-use Rattle.std.proofs.Common.{◌≡◌, ◌-◌, length, rules}
+use Rattle.std.proofs.Common.{◌≡◌, ◌-◌, length}
 use Rattle.edges_text.proofs.words.paint.Given as goal
 
 abbrev pub invariant-loop-i : goal.invariant-loop-i

@@ -1,5 +1,5 @@
 -- `put_list` ends: each part begins after the one before it, so there are at most as many words as bytes passed.
-use Rattle.std.proofs.Common.{◌≡◌, ◌-◌, ◌≤◌, length, rules}
+use Rattle.std.proofs.Common.{◌≡◌, ◌-◌, ◌≤◌, length}
 use Rattle.edges_text.proofs.words.put_list.Given as goal
 
 abbrev pub invariant-loop-at : goal.invariant-loop-at

@@ -1,5 +1,5 @@
 -- `word_at` is the word at a place, 0 past the end.
-use Rattle.std.proofs.Common.{sym, arith, rules}
+use Rattle.std.proofs.Common.{sym, arith}
 use lib.ListN.{get_or-eq_default}
 use Rattle.edges_text.proofs.words.word_at.Goals as goal
 
