@@ -1,10 +1,6 @@
-use Prim.Native.Nat.{ℕ, ◌<◌}
 use native.Mathlib.Omega.{arith}
-use Rattle.plan.specs.Measures.{most_rows}
 use Rattle.fold.proofs.ReadBack.{some_rows}
-use Rattle.fold_operands.specs.Operands.{One}
-use Rattle.compile.proofs.Finding.{Reached, reached_root, reached_next, reached_leaf}
-use borrow.Author.Rules.{rules}
+use Rattle.compile.proofs.Finding.{reached_root, reached_next, reached_leaf}
 use Rattle.compile.proofs.machine.first_row.Goals as goal
 
 pub overflow_sub-r : goal.overflow_sub-r

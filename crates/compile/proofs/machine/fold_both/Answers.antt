@@ -1,7 +1,7 @@
 -- `fold_both` picks the operator by its kind.
+use native.Mathlib.Omega.{arith}
 use borrow.Author.Tests.{ne_eqb}
 use Rattle.fold_sums.specs.ByKind.{plus, less}
-use borrow.Author.Rules.{rules}
 use Rattle.compile.proofs.machine.fold_both.Goals as goal
 
 pub fold_sum-requires : goal.fold_sum-requires
@@ -23,7 +23,7 @@ pub returns-in_default : goal.returns-in_default
 returns-in_default c =
     let kind = c.args.kind in
     rw (
-      ne_eqb kind 3 c.in_default.not-3,
-      ne_eqb kind 4 c.in_default.not-4,
-      ne_eqb kind 5 c.in_default.not-5,
+      ne_eqb kind 3 (λ e. omega arith),
+      ne_eqb kind 4 (λ e. omega arith),
+      ne_eqb kind 5 (λ e. omega arith),
     ) c.fold_raise.ensures

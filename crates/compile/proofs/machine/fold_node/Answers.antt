@@ -87,8 +87,12 @@ fold_minus-requires c = let p = c.args.plan.now in
     let step = c.args.step in
     let long = c.requires.plan_length_in_bounds in
     let comp = c.requires.at_node.4 in
-    let work = c.requires.at_node.5 in record { plan_length_in_bounds = long; end_lt_most_rows = few-rows start step p end long comp work; one = minus_asked start step p end long comp work c.first_row-top.ensures
-            c.if-kind-eq-MINUS.true }
+    let work = c.requires.at_node.5 in record {
+      plan_length_in_bounds = long;
+      end_lt_most_rows = few-rows start step p end long comp work;
+      one = minus_asked start step p end long comp work c.first_row-top.ensures
+          c.if-kind-eq-MINUS.true;
+    }
 
 pub returns-then-kind-eq-MINUS : goal.returns-then-kind-eq-MINUS
 returns-then-kind-eq-MINUS c =
@@ -130,8 +134,8 @@ first_row-below-requires c =
     let comp = c.requires.at_node.4 in
     let work = c.requires.at_node.5 in
     let below = below_asked start step p end long comp work c.first_row-top.ensures
-          c.if-kind-eq-NUMBER.false c.if-kind-eq-VARIABLE.false c.if-kind-eq-MINUS.false
-          c.if-kind-eq-LITERAL_POWER.false in record { plan_length_in_bounds = long; end_le_most_rows = below.0; ends = below.1 }
+    c.if-kind-eq-NUMBER.false c.if-kind-eq-VARIABLE.false c.if-kind-eq-MINUS.false
+    c.if-kind-eq-LITERAL_POWER.false in record { plan_length_in_bounds = long; end_le_most_rows = below.0; ends = below.1 }
 
 pub fold_both-requires : goal.fold_both-requires
 fold_both-requires c = let p = c.args.plan.now in
@@ -140,10 +144,14 @@ fold_both-requires c = let p = c.args.plan.now in
     let step = c.args.step in
     let long = c.requires.plan_length_in_bounds in
     let comp = c.requires.at_node.4 in
-    let work = c.requires.at_node.5 in record { plan_length_in_bounds = long; end_lt_most_rows = few-rows start step p end long comp work; two = both_asked start step p end long comp work
-            c.first_row-top.ensures c.if-kind-eq-NUMBER.false
-            c.if-kind-eq-VARIABLE.false c.if-kind-eq-MINUS.false
-            c.if-kind-eq-LITERAL_POWER.false c.first_row-below.ensures }
+    let work = c.requires.at_node.5 in record {
+      plan_length_in_bounds = long;
+      end_lt_most_rows = few-rows start step p end long comp work;
+      two = both_asked start step p end long comp work
+          c.first_row-top.ensures c.if-kind-eq-NUMBER.false
+          c.if-kind-eq-VARIABLE.false c.if-kind-eq-MINUS.false
+          c.if-kind-eq-LITERAL_POWER.false c.first_row-below.ensures;
+    }
 
 pub returns : goal.returns
 returns c =

@@ -1,12 +1,6 @@
-use mathlib.Core.Path.{◌≡◌, refl}
-use Prim.Native.Nat.{◌-◌, ◌≤◌}
+use mathlib.Core.Path.{refl}
 use native.Mathlib.Omega.{arith}
-use lib.ListN.{length}
-use Rattle.plan.specs.Measures.{most_rows}
-use Rattle.formula.specs.Tree.{Tree}
-use Rattle.compile.specs.Machine.{Compilable, Written}
-use Rattle.compile.proofs.Turns.{Turn, counted, turn_first, turn_node, turn_next, turn_done}
-use borrow.Author.Rules.{rules}
+use Rattle.compile.proofs.Turns.{counted, turn_first, turn_node, turn_next, turn_done}
 use Rattle.compile.proofs.machine.fold_nodes.Goals as goal
 
 pub loop-n-init : goal.loop-n-init

@@ -1,7 +1,6 @@
 -- `fold_place` folds the node at a place of the plan and puts its span on the root row of its tree.
 use native.Mathlib.Omega.{arith}
 use Rattle.compile.proofs.Nodes.{root_row, spanned}
-use borrow.Author.Rules.{rules}
 use Rattle.compile.proofs.machine.fold_place.Goals as goal
 
 pub overflow_sub-root : goal.overflow_sub-root

@@ -2,16 +2,15 @@
 use mathlib.Core.Path.{ap, ◌∙◌, subst}
 use Prim.Native.Nat.{◌≤◌}
 use native.Mathlib.Omega.{arith}
-use lib.ListN.{length, length-set}
+use lib.ListN.{length}
 use Rattle.plan.specs.Measures.{most_rows}
 use Rattle.formula.specs.Tree.{span_of}
 use Rattle.fold.specs.Folding.{fold}
 use Rattle.compile.proofs.Assembled.{assembled, whole_length}
-use borrow.Author.Rules.{rules}
 use Rattle.compile.proofs.machine.fold_tree.Goals as goal
 
 -- GONE overflow-mul-clear
--- 
+--
 --     let tree = c.before.before.before.before.before.before.requires.1 in
 --     omega (
 --       arith,
@@ -22,7 +21,7 @@ use Rattle.compile.proofs.machine.fold_tree.Goals as goal
 --     )
 
 -- GONE overflow-sub-clear
--- 
+--
 --     let tree = c.before.before.before.before.before.before.requires.1 in
 --     omega (
 --       arith,
@@ -33,7 +32,7 @@ use Rattle.compile.proofs.machine.fold_tree.Goals as goal
 --     )
 
 -- GONE slice-bounds-clear-start
--- 
+--
 --     let tree = c.before.before.before.before.before.before.requires.1 in
 --     omega (
 --       arith,
@@ -44,7 +43,7 @@ use Rattle.compile.proofs.machine.fold_tree.Goals as goal
 --     )
 
 -- GONE slice-bounds-clear-end
--- 
+--
 --     omega (
 --       arith,
 --       length-set c.before.before.before.fold-nodes.new.0 0 c.before.before.before.fold-nodes.result,
