@@ -18,10 +18,11 @@ returns c =
     let args = c.args in
     let b = lent args.line.now args.defaults.now args.plan.now args.table.now args.out.now in
     let room = length args.out.now - 67 in
-    let so = (done.progress_value, (done.wrote, (done.defaults_after, (done.plan_after, done.table_after)))) in
     let inside = c.requires.held_in_bounds in
-    let fits = last_fits args.tool args.progress b c.if-held-eq0.false inside room (omega arith) so ended.auto.out in
+    let fits = last_fits args.tool args.progress b c.if-held-eq0.false inside room (omega arith)
+      (done.progress_value, (done.wrote, (done.defaults_after, (done.plan_after, done.table_after)))) ended.auto.out in
     record {
-      out_after = last_some args.tool args.progress b c.if-held-eq0.false inside room (omega arith) so ended.auto.out;
+      out_after = last_some args.tool args.progress b c.if-held-eq0.false inside room (omega arith)
+      (done.progress_value, (done.wrote, (done.defaults_after, (done.plan_after, done.table_after)))) ended.auto.out;
       wrote_in_bounds = omega (arith, fits, c.requires.most_printed_in_bounds);
     }

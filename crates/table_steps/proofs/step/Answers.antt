@@ -7,14 +7,14 @@ use Rattle.table_progress.specs.Runs.{lent}
 use Rattle.table_progress.proofs.StepsTaken.{no_room, out_of_bounds, accepted, step-refused, step-within-line, step-whole-line}
 use Rattle.table_steps.proofs.step.Goals as goal
 
-pub slice_bounds-hold-held-end : goal.slice_bounds-hold-held-end
-slice_bounds-hold-held-end c = omega (arith, c.find-end.ensures, found_inside 10 c.args.input.now 0 (omega arith))
+pub slice_bounds-hold-end : goal.slice_bounds-hold-end
+slice_bounds-hold-end c = omega (arith, c.find-end.ensures, found_inside 10 c.args.input.now 0 (omega arith))
 
 pub overflow_add-used : goal.overflow_add-used
 overflow_add-used c = omega (arith, c.find-end.ensures, found_inside 10 c.args.input.now 0 (omega arith))
 
-pub slice_bounds-end_line-done-end : goal.slice_bounds-end_line-done-end
-slice_bounds-end_line-done-end c =
+pub slice_bounds-end_line-end : goal.slice_bounds-end_line-end
+slice_bounds-end_line-end c =
     let args = c.args in
     let b = lent args.line.now args.defaults.now args.plan.now args.table.now args.out.now in
     let so =
