@@ -5,12 +5,6 @@ use borrow.Author.Tests.{not-true, not-false}
 use Rattle.table_progress.proofs.Jobs.{line_refused, formula_refused, formula_sound, formula_texts, formula_printed}
 use Rattle.table_jobs.proofs.print_job.Goals as goal
 
--- GONE slice-bounds-print-plan-start
---  omega arith
-
--- GONE slice-bounds-print-plan-end
---  omega arith
-
 pub write_no_line-requires : goal.write_no_line-requires
 write_no_line-requires c = omega arith
 

@@ -22,10 +22,10 @@ write_rows-requires c = record { plan_value = c.requires.plan_value; texts_withi
 pub returns-in-Tables : goal.returns-in-Tables
 returns-in-Tables c =
     plan-printed c.args.n c.args.formula.now c.args.plan.now c.args.table.now c.requires.plan_value
-    c.cost-cost.ensures c.write_job_line-at.ensures.wrote c.enum_told-1.given.1
+    c.cost-cost.ensures c.write_job_line-at.ensures.wrote c.in-Tables.is
     c.print_points.ensures.wrote c.print_points.ensures.plan_after c.print_points.ensures.table_after
 
 pub returns-in-Reasons : goal.returns-in-Reasons
 returns-in-Reasons c =
     plan-printed c.args.n c.args.formula.now c.args.plan.now c.args.table.now c.requires.plan_value
-    c.cost-cost.ensures c.write_job_line-at.ensures.wrote c.enum_told-in-Reasons-1.given.1 c.write_rows.ensures refl refl
+    c.cost-cost.ensures c.write_job_line-at.ensures.wrote c.in-Reasons.is c.write_rows.ensures refl refl
