@@ -6,7 +6,6 @@ use Prim.Native.Nat.{ℕ, ◌+◌, ◌*◌, ◌<◌}
 use native.Mathlib.Omega.{arith}
 use lib.Dec.{eqb}
 use lib.ListN.{length}
-use Rattle.formula.specs.Tree as Tree
 use Rattle.formula.specs.Tree.{span, Tree, nodes}
 use Rattle.formula.specs.Refusals.{Part, itself, sum_left, sum-right, difference-left, difference-right}
 use Rattle.formula.specs.Refusals.{product-left, product-right, under-minus, under-power, in_base, in_exponent}

@@ -11,7 +11,6 @@ use borrow.Author.Tests.{eqb-true, eqb-false}
 use Rattle.plan.specs.Measures.{plan_length, row_start, most_rows}
 use Rattle.plan.specs.Plan as Plan
 use Rattle.chain.specs.Chain.{trimmed, without_trailing, with_last, words}
-use Rattle.formula.specs.Tree as Tree
 use Rattle.formula.specs.Tree.{Span, span, Tree, span_of}
 use Rattle.fold.specs.Folded.{Folded, constant, of_sum, trimmed_sum}
 use Rattle.fold.specs.Folding.{operands, fold, fold_minus, fold_power}

@@ -1,7 +1,6 @@
 -- A tree's nodes folded one after the other: trees that are finished stand folded in the plan, one behind the other, the last on top.
 use Rattle.std.specs.Prelude.{◌≡◌, cond, List, [], ◌∷◌, ℕ, ◌+◌, ◌-◌, ◌*◌, ◌^◌, ◌≤◌, ◌<◌, eqb, get_or, take, drop}
 use Rattle.plan.specs.Measures.{plan_length, row_length, row_start, most_rows}
-use Rattle.formula.specs.Tree as Tree
 use Rattle.formula.specs.Tree.{Span, span, Tree, span_of, nodes}
 use Rattle.formula.specs.Refusals.{Part}
 use Rattle.formula.specs.Words.{most_nodes}

@@ -8,7 +8,7 @@ use lib.Dec.{eqb, ltb}
 use lib.ListN.{length}
 use borrow.Author.Tests.{ltb-true}
 use Rattle.plan.specs.Measures.{row_start}
-use Rattle.chain.specs.Chain.{trimmed, row}
+use Rattle.chain.specs.Chain.{trimmed}
 use Rattle.chain.specs.declared.ChainAnswer.{ChainAnswer}
 use Rattle.chain.specs.Answer.{answered}
 use Rattle.plan.specs.Row as Row

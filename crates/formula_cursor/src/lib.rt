@@ -1,5 +1,7 @@
 // A formula's text and the place reached in it, as one small value above the readers, which take a slice and a number.
 // The grammar is read in `formula_readers`; what a text is refused for is judged in `formula_read`.
+#![tactic(auto)]
+
 ghost use Rattle.std.specs.Prelude.{◌≡◌, [], ◌≤◌, ◌<◌, length};
 ghost use Rattle.formula_scan.specs.Readers.{fault_places};
 ghost use Rattle.formula_cursor.specs.Whole.{Scanned, if_ended, WholeRead};

@@ -52,6 +52,7 @@ fn pushed(number: Numeral, digit: u64) -> Numeral
 }
 
 // The number that begins with the digit at a place: 0 alone, or all digits that follow.
+#[tactic(auto, using(formula_scan::proofs::Readings::number_nought))]
 pub fn read_number(text: &[u8], at: usize) -> Numeral
     requires { Digit (get_or text.now at 0) }
     ensures { NumberRead 64 text.now at result }

@@ -1,5 +1,7 @@
 // The formula reader: a text to its tree in postfix order, by document 01's grammar and limits, or the refusal's number and place.
 // The bracket count is in `depth`, the readers of the grammar in `formula_readers`, a whole text in `formula_cursor`; what a formula folds to lives above.
+#![tactic(auto)]
+
 mod depth;
 
 ghost use Rattle.std.specs.Prelude.{◌≡◌, cond, ◌<◌, ltb, length};

@@ -96,10 +96,10 @@ pub record NumberSoFar (w : ℕ) (l : List ℕ) (at : ℕ) (r : Numeral) : Type 
       → run (after_caret lv x p) at (drop at l) ≡ run (in_literal lv x p v r.at) r.at (drop r.at l)
   pub spelt : Count (take (r.at - at) (drop at l)) v
 
-pub number-nought : (l : List ℕ) (at d : ℕ) → d + 48 ≡ get_or l at 0 → d ≡ 0
+pub number_nought : (l : List ℕ) (at d : ℕ) → d + 48 ≡ get_or l at 0 → d ≡ 0
     → NumberRead 64 l at (record { at = at + 1; value = d; over = false; odd = d % 2 })
 unfolding step before_operand before_exponent byte_of
-number-nought l at d e none = record {
+number_nought l at d e none = record {
   v = 0;
   value-kept = none;
   value-over = refl;

@@ -1,5 +1,7 @@
 // Filling with era count: the points of a fill, and how often the root crossed the end of an era over them.
 // What one shift says of a chain is in `chain_arrays`; filling itself is in `plan_fill`, the work of a point in `plan_points`.
+#![tactic(auto)]
+
 ghost use Rattle.std.specs.Prelude.{◌≡◌, true, ◌≤◌, length};
 ghost use Rattle.plan.specs.Measures.{plan_length, most_rows};
 ghost use Rattle.plan.specs.Plan.{sound};

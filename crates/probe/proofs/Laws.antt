@@ -1,6 +1,6 @@
 -- Laws of the probe, over the width w wherever words are computed: uniqueness, the offset's range and meaning, the verdicts.
 -- `◌<ℤ◌` and `◌≤ℤ◌` are the library's orders on signed numbers.
-use Rattle.std.proofs.Common.{◌≡◌, ℕ, zero, suc, ◌+◌, ◌-◌, ◌%◌, ◌^◌, ◌<◌, Bool, true, false, cond, ltb, ℤ, pos, negsuc, neg_ℤ, ◌≤ℤ◌, ◌<ℤ◌, refl, not-suc-le-zero, arith, ltb→lt, lt-ltb, ne_eqb}
+use Rattle.std.proofs.Common.{◌≡◌, ℕ, zero, suc, ◌+◌, ◌-◌, ◌%◌, ◌^◌, ◌<◌, ℤ, pos, negsuc, neg_ℤ, ◌≤ℤ◌, ◌<ℤ◌, refl, not-suc-le-zero, arith, ltb→lt, lt-ltb, ne_eqb}
 use lib.Signed.{lt_z, clash_ℤ, lt_z_yes}
 use Rattle.word.specs.Word.{word, sum, difference}
 use Rattle.word.proofs.Ring.{word_fits, difference-sum}
@@ -10,7 +10,7 @@ use Rattle.word.proofs.WholeNumbers.{passed, failed}
 use Rattle.word.proofs.Unique.{both_are}
 use Rattle.probe.specs.declared.Verdict.TheVariants.{Behind, Unset}
 use Rattle.probe.specs.declared.ProbeAnswer.{ProbeAnswer}
-use Rattle.probe.specs.Probe.{offset, verdict, accepted, refused, probe_answer, ahead, behind, within, verdict_word}
+use Rattle.probe.specs.Probe.{offset, verdict, accepted, probe_answer, ahead, behind, within, verdict_word}
 
 -- Any two answers that meet the contract are equal.
 pub probe_unique : (reading expected tolerance : ℕ) (r s : ProbeAnswer)

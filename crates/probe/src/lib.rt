@@ -1,5 +1,7 @@
 // The probe: how far a reading lies from what was expected, and whether a tolerance allows it.
 // The offset is signed and never negated, since -2^63 has no positive twin.
+#![tactic(auto)]
+
 ghost use Rattle.std.specs.Prelude.{◌≡◌, ◌^◌, ◌<◌};
 ghost use Rattle.probe.specs.Probe.{offset, verdict, verdict_word, probe_answer, probe_word};
 

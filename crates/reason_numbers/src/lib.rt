@@ -1,5 +1,7 @@
 // The number of a row's reason, from what the folding rules see of its operands, operator by operator.
 // What is seen of an operand's row, and the call, is in `reason_call`; that these are the numbers of reasons is proved in `reason`.
+#![tactic(auto)]
+
 ghost use Rattle.std.specs.Prelude.{◌≡◌, ◌≤◌, ◌<◌};
 ghost use Rattle.plan.specs.Measures.{most_rows};
 ghost use Rattle.reason.proofs.Numbers.{is_word, has_word, has_operator, sum_folds, alike_folds, product_folds, power_folds, judged, joined_number};

@@ -1,6 +1,5 @@
 -- `compile` refuses, or folds the tree that it reads into the end of the plan.
 use native.Mathlib.Omega.{arith}
-use borrow.Author.Rules.{rules}
 use Rattle.fold.specs.Compiling.{too_short}
 use Rattle.compile.proofs.Assembled.{accepted_compilable, read-refused, read-accepted, read_compiled}
 use Rattle.compile.proofs.compile.Goals as goal

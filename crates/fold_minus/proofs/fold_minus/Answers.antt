@@ -1,12 +1,12 @@
 -- `fold_minus` negates each element of a sum chain and the first one of a product chain, and otherwise appends the row of minus.
-use Rattle.std.proofs.Common.{sym, ◌∙◌, arith, rules}
+use Rattle.std.proofs.Common.{sym, ◌∙◌, arith}
 use Rattle.word.proofs.Ring.{difference-found}
 use Rattle.fold_operands.proofs.OperandLaws.{operand_some, operand_short}
 use Rattle.fold_minus.proofs.MinusOperands.{leaves-negated, leaves-first-negated, leaves-minus}
 use Rattle.fold_minus.proofs.fold_minus.Goals as goal
 
--- GONE overflow-sub-root
---  omega (arith, operand_some c.before.requires.1.1.2)
+pub overflow_sub-root : goal.overflow_sub-root
+overflow_sub-root c = omega (arith, operand_some c.requires.one.2)
 
 pub returns-then-root_kind-lt-PRODUCT_CHAIN : goal.returns-then-root_kind-lt-PRODUCT_CHAIN
 returns-then-root_kind-lt-PRODUCT_CHAIN c =
@@ -36,4 +36,4 @@ pub returns : goal.returns
 returns c =
     λ s a o.
     leaves-minus s a o (omega (arith, operand_some o))
-    (omega (arith, c.if-root_kind-lt-PRODUCT_CHAIN.false, c.if-root_kind-eq-PRODUCT_CHAIN.false, c.kind-root_kind.ensures)) c.append.ensures
+    (omega (arith, c.kind-root_kind.ensures)) c.append.ensures

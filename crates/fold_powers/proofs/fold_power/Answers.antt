@@ -2,11 +2,10 @@
 use native.Mathlib.Omega.{arith}
 use Rattle.fold_operands.proofs.OperandLaws.{operand_some}
 use Rattle.fold_powers.proofs.PowerOperands.{power_of_constant, power_zero, power_one}
-use borrow.Author.Rules.{rules}
 use Rattle.fold_powers.proofs.fold_power.Goals as goal
 
--- GONE overflow-sub-root
---  omega (arith, operand_some c.before.requires.1.1.1.2)
+pub overflow_sub-root : goal.overflow_sub-root
+overflow_sub-root c = omega (arith, operand_some c.requires.one.2)
 
 pub returns-then-kind-eq-CONSTANT : goal.returns-then-kind-eq-CONSTANT
 returns-then-kind-eq-CONSTANT c =

@@ -4,14 +4,13 @@ use native.Mathlib.Omega.{arith}
 use Rattle.fold_operands.proofs.OperandLaws.{operands_some}
 use Rattle.fold_operands.proofs.Leaving.{room_of_both}
 use Rattle.fold_products.proofs.ProductOperands.{products_short, sums_say, one_left, one_right, zero_left, sums_left, products_left, row-left}
-use borrow.Author.Rules.{rules}
 use Rattle.fold_products.proofs.fold_product.Goals as goal
 
--- GONE overflow-sub-left-root
---  omega (arith, operands_some c.before.requires.1.1.3)
+pub overflow_sub-left_root : goal.overflow_sub-left_root
+overflow_sub-left_root c = omega (arith, operands_some c.requires.two.3)
 
--- GONE overflow-sub-right-root
---  omega (arith, operands_some c.before.requires.1.1.3)
+pub overflow_sub-right_root : goal.overflow_sub-right_root
+overflow_sub-right_root c = omega (arith, operands_some c.requires.two.3)
 
 pub move_down-requires : goal.move_down-requires
 move_down-requires c = let roots = operands_some c.requires.two.3 in record { plan_length_in_bounds = omega arith; le_first = omega (arith, roots); first_le_end = omega (arith, roots); end_le_most_rows = omega arith }

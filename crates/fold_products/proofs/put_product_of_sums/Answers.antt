@@ -2,7 +2,6 @@
 use mathlib.Core.Path.{sym}
 use native.Mathlib.Omega.{arith}
 use Rattle.fold_products.proofs.ProductOperands.{sums_put}
-use borrow.Author.Rules.{rules}
 use Rattle.fold_products.proofs.put_product_of_sums.Goals as goal
 
 pub returns : goal.returns

@@ -1,18 +1,20 @@
 -- `fold_raise` folds a constant to a constant or a sum chain; anything else becomes a row.
 use mathlib.Core.Path.{◌∙◌}
+use mathlib.Core.Logic.{inl, inr}
 use native.Mathlib.Omega.{arith}
 use Rattle.chain_arrays.proofs.Paired.{raises_by_word}
 use Rattle.fold_operands.proofs.OperandLaws.{operands_some}
-use Rattle.fold_operands.proofs.Leaving.{room_of_both, either_way}
+use Rattle.fold_operands.proofs.Leaving.{room_of_both}
 use Rattle.fold_raises.proofs.RaiseOperands.{raise-folded, raise_as_row}
 use borrow.Author.Rules.{rules}
 use Rattle.fold_raises.proofs.fold_raise.Goals as goal
+use Rattle.fold_raises.proofs.fold_raise.Goals.{then-base-eq-CONSTANT+else-exponent-lt-PRODUCT_CHAIN, else-base-eq-CONSTANT}
 
--- GONE overflow-sub-base-root
---  omega (arith, operands_some c.before.requires.1.1.3)
+pub overflow_sub-base_root : goal.overflow_sub-base_root
+overflow_sub-base_root c = omega (arith, operands_some c.requires.two.3)
 
--- GONE overflow-sub-exponent-root
---  omega (arith, operands_some c.before.requires.1.1.3)
+pub overflow_sub-exponent_root : goal.overflow_sub-exponent_root
+overflow_sub-exponent_root c = omega (arith, operands_some c.requires.two.3)
 
 pub returns-then-exponent-lt-PRODUCT_CHAIN : goal.returns-then-exponent-lt-PRODUCT_CHAIN
 returns-then-exponent-lt-PRODUCT_CHAIN c =
@@ -28,4 +30,8 @@ returns c =
     raise_as_row c.args.plan.now c.args.left c.args.middle c.args.end
     c.kind-base.ensures c.kind-exponent.ensures
     (room_of_both c.requires.two.3 c.requires.plan_length_in_bounds c.requires.end_lt_most_rows)
-    (either_way c.if-base-eq-CONSTANT.branch (λ x. (x.0.taken, x.1.left)) (λ x. x.left)) c.append.ensures
+    (elim c.if-base-eq-CONSTANT.branch [
+      | then-base-eq-CONSTANT+else-exponent-lt-PRODUCT_CHAIN w ↦ inl (w.if-base-eq-CONSTANT.true, omega (arith, w.if-exponent-lt-PRODUCT_CHAIN.false))
+      | else-base-eq-CONSTANT w ↦ inr w.if-base-eq-CONSTANT.false
+    ])
+    c.append.ensures

@@ -5,7 +5,6 @@ use lib.Dec.{ltb}
 use borrow.Author.Tests.{lt-ltb, le-ltb}
 use Rattle.plan.specs.Row.{kind}
 use Rattle.plan.specs.Plan.{row}
-use borrow.Author.Rules.{rules}
 use Rattle.fold_sums.proofs.both_sums.Goals as goal
 
 pub returns-then-kind-lt-PRODUCT_CHAIN : goal.returns-then-kind-lt-PRODUCT_CHAIN

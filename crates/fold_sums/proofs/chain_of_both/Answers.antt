@@ -2,7 +2,6 @@
 use mathlib.Core.Path.{◌∙◌}
 use borrow.Author.Tests.{ne_eqb}
 use Rattle.chain.specs.Answer.{answered, sum_outcome, difference_outcome}
-use borrow.Author.Rules.{rules}
 use Rattle.fold_sums.proofs.chain_of_both.Goals as goal
 
 pub returns-then-kind-eq-SUM : goal.returns-then-kind-eq-SUM

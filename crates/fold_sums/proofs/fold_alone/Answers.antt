@@ -1,7 +1,6 @@
 -- `fold_alone` leaves the operand of + as it stands, and takes minus of that of -.
 use borrow.Author.Tests.{ne_eqb}
 use Rattle.fold_operands.proofs.Leaving.{operand-left}
-use borrow.Author.Rules.{rules}
 use Rattle.fold_sums.proofs.fold_alone.Goals as goal
 
 pub returns-then-kind-eq-SUM : goal.returns-then-kind-eq-SUM

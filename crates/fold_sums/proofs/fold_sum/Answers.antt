@@ -3,14 +3,13 @@ use native.Mathlib.Omega.{arith}
 use Rattle.fold_operands.proofs.OperandLaws.{operand_some}
 use Rattle.fold_operands.proofs.Leaving.{room_of_both}
 use Rattle.fold_sums.proofs.SumOperands.{leaves-chain, leaves-left, moved_down_lem, leaves-alone, leaves-row}
-use borrow.Author.Rules.{rules}
 use Rattle.fold_sums.proofs.fold_sum.Goals as goal
 
--- GONE overflow-sub-left-root
---  omega (arith, operand_some c.before.requires.1.1.1.3.first)
+pub overflow_sub-left_root : goal.overflow_sub-left_root
+overflow_sub-left_root c = omega (arith, operand_some c.requires.two.3.first)
 
--- GONE overflow-sub-right-root
---  omega (arith, operand_some c.before.requires.1.1.1.3.second)
+pub overflow_sub-right_root : goal.overflow_sub-right_root
+overflow_sub-right_root c = omega (arith, operand_some c.requires.two.3.second)
 
 pub returns-then-both_sums : goal.returns-then-both_sums
 returns-then-both_sums c =

@@ -1,7 +1,6 @@
 -- `if_ended` gives the sum where there is one and no byte is left, and else stops at the place.
 use native.Mathlib.Omega.{arith}
 use lib.ListN.{length}
-use borrow.Author.Rules.{rules}
 use borrow.Author.Tests.{not-true, not-false, lt-leb, le-leb}
 use Rattle.formula_cursor.proofs.if_ended.Goals as goal
 

@@ -1,7 +1,6 @@
 -- `scan_whole` reads a whole text with no tree to write into.
 use Rattle.formula_cursor.proofs.Wholes.{none_written}
-use borrow.Author.Rules.{rules}
 use Rattle.formula_cursor.proofs.scan_whole.Goals as goal
 
 pub returns : goal.returns
-returns c = none_written c.args.text.now c.read_whole.result c.read_whole.new.1.0 c.read_whole.ensures c.read_whole.auto.1.0
+returns c = none_written c.args.text.now c.read_whole.result c.read_whole.new.tree c.read_whole.ensures c.read_whole.auto.tree

@@ -1,6 +1,5 @@
 -- `sum_from` reads a sum from a place on, and unpacks what the reader answers.
 use Rattle.formula_scan.proofs.Packing.{same_read}
-use borrow.Author.Rules.{rules}
 use Rattle.formula_cursor.proofs.sum_from.Goals as goal
 
 pub returns : goal.returns

@@ -1,17 +1,14 @@
 use mathlib.Core.Path.{◌∙◌, sym}
 use native.Mathlib.Omega.{arith}
 use Rattle.formula_scan.proofs.Steps.{inside}
-use Rattle.formula_scan.proofs.Readings.{digit_test, no_digit_test, number-nought, number_starts, number_goes_on, number-ends}
+use Rattle.formula_scan.proofs.Readings.{digit_test, no_digit_test, number_starts, number_goes_on, number-ends}
 use Rattle.formula_digits.proofs.read_number.Goals as goal
 
 pub digit_of-digit-requires : goal.digit_of-digit-requires
 digit_of-digit-requires c = omega (arith, c.byte_at-first.ensures)
 
-pub returns-then-digit-eq0 : goal.returns-then-digit-eq0
-returns-then-digit-eq0 c = number-nought c.args.text.now c.args.at c.digit_of-digit.result (c.digit_of-digit.ensures ∙ c.byte_at-first.ensures) c.if-digit-eq0.true
-
 pub loop-number-init : goal.loop-number-init
-loop-number-init c = number_starts c.args.text.now c.args.at c.digit_of-digit.result (c.digit_of-digit.ensures ∙ c.byte_at-first.ensures) (omega (arith, c.digit_of-digit.ensures, c.byte_at-first.ensures)) c.if-digit-eq0.false
+loop-number-init c = number_starts c.args.text.now c.args.at c.digit_of-digit.result (c.digit_of-digit.ensures ∙ c.byte_at-first.ensures) (omega (arith, c.digit_of-digit.ensures, c.byte_at-first.ensures)) (λ z. omega arith)
 
 pub returns-then-not-is_digit : goal.returns-then-not-is_digit
 returns-then-not-is_digit c = number-ends c.args.text.now c.args.at c.loop-number.number c.loop-number.invariant (λ d. no_digit_test c.byte_at-byte.result (sym c.is_digit.ensures ∙ c.if-not-is_digit.true) (rw c.byte_at-byte.ensures d))

@@ -4,7 +4,6 @@ use mathlib.Core.List.{[]}
 use Prim.Native.Nat.{min}
 use native.Mathlib.Omega.{arith}
 use borrow.Author.Tests.{not-true, not-false}
-use borrow.Author.Rules.{rules}
 use Rattle.formula_scan.proofs.Deciding.{judged_fault, judged-faultless}
 use Rattle.formula_scan.proofs.Judging.{judged_long, judged-deep, shallow}
 use Rattle.formula_cursor.proofs.Wholes.{whole_lost, whole_got}

@@ -1,7 +1,6 @@
 -- `nodes_fault` codes refusal 7.
 use native.Mathlib.Omega.{arith}
 use borrow.Author.Tests.{lt-ltb, le-ltb}
-use borrow.Author.Rules.{rules}
 use Rattle.formula.specs.Words.{most_nodes}
 use Rattle.formula_read.proofs.nodes_fault.Goals as goal
 

@@ -4,7 +4,6 @@ use lib.Seq.{length-take-le}
 use Rattle.formula.specs.Words.{tree_length}
 use Rattle.formula.specs.Refusals.{too_short}
 use Rattle.formula_scan.proofs.Deciding.{over_reading}
-use borrow.Author.Rules.{rules}
 use Rattle.formula_read.proofs.read.Goals as goal
 
 pub returns-then-tree-lt-TREE_WORDS : goal.returns-then-tree-lt-TREE_WORDS

@@ -1,7 +1,6 @@
 -- `read_over` judges, and writes only what is accepted.
 use Rattle.formula_scan.proofs.Deciding.{over-refused, over-accepted}
 use Rattle.formula_scan.proofs.Packing.{judged_packs}
-use borrow.Author.Rules.{rules}
 use Rattle.formula_read.proofs.read_over.Goals as goal
 
 pub returns-then-answer-ne0 : goal.returns-then-answer-ne0

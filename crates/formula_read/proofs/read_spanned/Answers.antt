@@ -1,7 +1,6 @@
 -- `read_spanned` reads over 513 words, which hold the spans too.
 use native.Mathlib.Omega.{arith}
 use Rattle.formula_scan.proofs.Deciding.{over-spanned}
-use borrow.Author.Rules.{rules}
 use Rattle.formula_read.proofs.read_spanned.Goals as goal
 
 pub read_over-requires : goal.read_over-requires

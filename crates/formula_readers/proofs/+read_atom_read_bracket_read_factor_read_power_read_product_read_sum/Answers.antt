@@ -42,16 +42,16 @@ pub read_power-returns-then-byte_at-ne94 : goal.read_power-returns-then-byte_at-
 read_power-returns-then-byte_at-ne94 t c = power-plain c.args.text.now c.args.at c.args.nodes c.args.fault _ _ _ (got c.read_atom-base.ensures (not-false _ c.if-not-base.false)) (λ e. c.if-byte_at-ne94.true (c.byte_at.ensures ∙ e))
 
 pub read_power-returns-then-is_digit : goal.read_power-returns-then-is_digit
-read_power-returns-then-is_digit t c = power_literal c.args.text.now c.args.at c.args.nodes c.args.fault _ c.read_atom-base.result _ (got c.read_atom-base.ensures (not-false _ c.if-not-base.false)) (sym c.byte_at.ensures ∙ c.if-byte_at-ne94.false) c.read_number-number.result c.read_number-number.ensures _ _ c.literal_power.ensures.value c.literal_power.ensures.tree_after
+read_power-returns-then-is_digit t c = power_literal c.args.text.now c.args.at c.args.nodes c.args.fault _ c.read_atom-base.result _ (got c.read_atom-base.ensures (not-false _ c.if-not-base.false)) (omega (arith, c.byte_at.ensures)) c.read_number-number.result c.read_number-number.ensures _ _ c.literal_power.ensures.value c.literal_power.ensures.tree_after
 
 pub read_power-returns-then-byte-ne40 : goal.read_power-returns-then-byte-ne40
-read_power-returns-then-byte-ne40 t c = no_exponent c.args.text.now c.args.at c.args.nodes c.args.fault _ c.read_atom-base.result _ (got c.read_atom-base.ensures (not-false _ c.if-not-base.false)) (sym c.byte_at.ensures ∙ c.if-byte_at-ne94.false) (λ e. c.if-byte-ne40.true (c.byte_at-byte.ensures ∙ e)) (λ d. no_digit_test c.byte_at-byte.result (sym c.is_digit.ensures ∙ c.if-is_digit.false) (rw c.byte_at-byte.ensures d)) _ _ c.stopped.ensures
+read_power-returns-then-byte-ne40 t c = no_exponent c.args.text.now c.args.at c.args.nodes c.args.fault _ c.read_atom-base.result _ (got c.read_atom-base.ensures (not-false _ c.if-not-base.false)) (omega (arith, c.byte_at.ensures)) (λ e. c.if-byte-ne40.true (c.byte_at-byte.ensures ∙ e)) (λ d. no_digit_test c.byte_at-byte.result (sym c.is_digit.ensures ∙ c.if-is_digit.false) (rw c.byte_at-byte.ensures d)) _ _ c.stopped.ensures
 
 pub read_power-returns-then-not-exponent : goal.read_power-returns-then-not-exponent
-read_power-returns-then-not-exponent t c = raise_lost c.args.text.now c.args.at c.args.nodes c.args.fault _ c.read_atom-base.result _ (got c.read_atom-base.ensures (not-false _ c.if-not-base.false)) (sym c.byte_at.ensures ∙ c.if-byte_at-ne94.false) (sym c.byte_at-byte.ensures ∙ c.if-byte-ne40.false) _ (c.lesser-least.ensures ∙ ap (λ g. min c.read_atom-base.result.fault g) c.base_fault.ensures) _ _ c.read_bracket-exponent.ensures (not-true _ c.if-not-exponent.true)
+read_power-returns-then-not-exponent t c = raise_lost c.args.text.now c.args.at c.args.nodes c.args.fault _ c.read_atom-base.result _ (got c.read_atom-base.ensures (not-false _ c.if-not-base.false)) (omega (arith, c.byte_at.ensures)) (sym c.byte_at-byte.ensures ∙ c.if-byte-ne40.false) _ (c.lesser-least.ensures ∙ ap (λ g. min c.read_atom-base.result.fault g) c.base_fault.ensures) _ _ c.read_bracket-exponent.ensures (not-true _ c.if-not-exponent.true)
 
 pub read_power-returns : goal.read_power-returns
-read_power-returns t c = power-raise c.args.text.now c.args.at c.args.nodes c.args.fault _ c.read_atom-base.result _ (got c.read_atom-base.ensures (not-false _ c.if-not-base.false)) (sym c.byte_at.ensures ∙ c.if-byte_at-ne94.false) (sym c.byte_at-byte.ensures ∙ c.if-byte-ne40.false) _ (c.lesser-least.ensures ∙ ap (λ g. min c.read_atom-base.result.fault g) c.base_fault.ensures) c.read_bracket-exponent.result _ c.read_bracket-exponent.ensures (not-false _ c.if-not-exponent.false) _ _ (c.noted.ensures.value ∙ ap with_node c.both.ensures) (c.noted.ensures.tree_after ∙ ap (λ (f : Found). put c.read_bracket-exponent.new.tree f.nodes 8 0 (span c.args.at f.at)) c.both.ensures)
+read_power-returns t c = power-raise c.args.text.now c.args.at c.args.nodes c.args.fault _ c.read_atom-base.result _ (got c.read_atom-base.ensures (not-false _ c.if-not-base.false)) (omega (arith, c.byte_at.ensures)) (sym c.byte_at-byte.ensures ∙ c.if-byte-ne40.false) _ (c.lesser-least.ensures ∙ ap (λ g. min c.read_atom-base.result.fault g) c.base_fault.ensures) c.read_bracket-exponent.result _ c.read_bracket-exponent.ensures (not-false _ c.if-not-exponent.false) _ _ (c.noted.ensures.value ∙ ap with_node c.both.ensures) (c.noted.ensures.tree_after ∙ ap (λ (f : Found). put c.read_bracket-exponent.new.tree f.nodes 8 0 (span c.args.at f.at)) c.both.ensures)
 
 pub read_product-read_factor-right-requires : goal.read_product-read_factor-right-requires
 read_product-read_factor-right-requires t c = let so = product-onward c.requires.at_in_bounds c.loop-right.invariant.so_far in (omega (arith, so.after), (so.inside, (so.few c.requires.nodes_le_at, (c.requires.packs.0, omega (arith, product_fault c.loop-right.invariant.so_far, c.requires.packs.1)))))

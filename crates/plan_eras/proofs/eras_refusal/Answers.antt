@@ -4,16 +4,10 @@ use mathlib.Core.Path.{sym, ap, ◌∙◌}
 use native.Mathlib.Omega.{arith}
 use lib.Dec.{eqb}
 use borrow.Author.Tests.{ne_eqb}
-use borrow.Author.Rules.{rules}
 use Rattle.plan.proofs.SoundLaws.{sound-count}
 use Rattle.plan.proofs.Accepting.{accepted}
 use Rattle.plan.proofs.EraLaws.{first_refusals, last_by_kind}
 use Rattle.plan_eras.proofs.eras_refusal.Goals as goal
-
--- GONE overflow-sub-word
--- 
---     let plan = c.before.before.before.before.args.plan.now in
---     omega (arith, sound-count plan (accepted plan (omega (arith, c.before.before.refusal.ensures))).1)
 
 pub returns-then-judged-ne0 : goal.returns-then-judged-ne0
 returns-then-judged-ne0 c =
@@ -26,11 +20,16 @@ bounds-plan-0 c =
     let plan = c.args.plan.now in
     omega (arith, (accepted plan (omega (arith, c.refusal-judged.ensures))).0)
 
+pub overflow_sub-plan : goal.overflow_sub-plan
+overflow_sub-plan c =
+    let plan = c.args.plan.now in
+    omega (arith, sound-count plan (accepted plan (omega (arith, c.refusal-judged.ensures))).1)
+
 pub word-kind-requires : goal.word-kind-requires
 word-kind-requires c =
     let plan = c.args.plan.now in
     let good = accepted plan (omega (arith, c.refusal-judged.ensures)) in
-    (good.0, (omega (arith, sound-count plan good.1), omega arith))
+    record { plan_length_in_bounds = good.0; r_lt_most_rows = omega (arith, sound-count plan good.1); i_lt_row_length = omega arith }
 
 pub returns-then-kind-eq-CONSTANT : goal.returns-then-kind-eq-CONSTANT
 returns-then-kind-eq-CONSTANT c =

@@ -3,16 +3,13 @@ use mathlib.Core.Path.{sym, ◌∙◌}
 use native.Mathlib.Omega.{arith}
 use mir.Syntax.{w64}
 use mir.ValLaws.{to_z-of_z}
-use borrow.Author.Rules.{rules}
 use Rattle.plan.specs.Eras.{root_row}
 use Rattle.plan.proofs.SoundLaws.{sound-count}
 use Rattle.plan.proofs.RootChains.{crosses_not, root_crosses}
 use Rattle.plan_eras.proofs.root_crossing.Goals as goal
 
--- GONE overflow-sub-root
--- 
---     let start = c.before.before in
---     omega (arith, sound-count start.args.plan.now start.requires.1)
+pub overflow_sub-root : goal.overflow_sub-root
+overflow_sub-root c = omega (arith, sound-count c.args.plan.now c.requires.plan_value)
 
 pub word-requires : goal.word-requires
 word-requires c = record { plan_length_in_bounds = c.requires.plan_length_in_bounds; r_lt_most_rows = omega (arith, sound-count c.args.plan.now c.requires.plan_value); i_lt_row_length = omega arith }

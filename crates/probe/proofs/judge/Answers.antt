@@ -1,6 +1,6 @@
 -- `judge` meets its contract: its tests are those of `verdict`, and minus the tolerance fits.
-use Rattle.std.proofs.Common.{sym, ◌∙◌, rules}
-use Rattle.probe.proofs.Signs.{test_above, test_below, opposite_fits}
+use Rattle.std.proofs.Common.{sym, ◌∙◌}
+use Rattle.probe.proofs.Signs.{test_above, test_below}
 use Rattle.probe.proofs.judge.Goals as goal
 
 pub returns-then-t-offset : goal.returns-then-t-offset

@@ -1,5 +1,5 @@
 -- `probe` meets its contract: the test of the tolerance picks the case, and the two callees say what stands in it.
-use Rattle.std.proofs.Common.{◌≡◌, ◌^◌, refl, ◌∙◌, arith, w64, to_z, of_z, rules, le-ltb, lt-ltb, eq-eqb, ne_eqb}
+use Rattle.std.proofs.Common.{◌≡◌, ◌^◌, refl, ◌∙◌, arith, w64, to_z, of_z, le-ltb, lt-ltb, eq-eqb, ne_eqb}
 use mir.ValLaws.{to_z-of_z}
 use Rattle.probe.specs.Probe.{offset}
 use Rattle.probe.proofs.probe.Goals as goal

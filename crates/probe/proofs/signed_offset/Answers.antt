@@ -1,5 +1,5 @@
 -- `signed_offset` meets its contract: what wraps back to the reading is the one word that `difference` is.
-use Rattle.std.proofs.Common.{sym, ap, ◌∙◌, w64, rules}
+use Rattle.std.proofs.Common.{sym, ap, ◌∙◌, w64}
 use mir.ValLaws.{to_z-of_z}
 use Rattle.word.proofs.Ring.{word_of_word, difference-unique}
 use Rattle.word.specs.Signed.{signed}

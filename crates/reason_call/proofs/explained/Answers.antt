@@ -1,6 +1,5 @@
 -- `explained` puts the row's span beside the reason.
 use mathlib.Core.Path.{refl}
-use borrow.Author.Rules.{rules}
 use Rattle.reason_call.proofs.explained.Goals as goal
 
 pub returns : goal.returns

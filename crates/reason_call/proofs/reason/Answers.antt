@@ -1,7 +1,6 @@
 -- `reason` answers the refusal, then nothing for a row that is not counted, then the row's reason and span.
 use mathlib.Core.Path.{sym, ap, subst, ◌∙◌}
 use native.Mathlib.Omega.{arith}
-use borrow.Author.Rules.{rules}
 use Rattle.plan.specs.Row.{Row, first_byte, end_byte}
 use Rattle.plan.proofs.Accepting.{accepted}
 use Rattle.plan.proofs.SoundLaws.{sound-count}

@@ -2,7 +2,6 @@
 use mathlib.Core.Path.{sym, ap, ap₂, ◌∙◌}
 use native.Mathlib.Omega.{arith}
 use lib.ListN.{get_or}
-use borrow.Author.Rules.{rules}
 use Rattle.plan.proofs.SoundLaws.{sound-count}
 use Rattle.reason.proofs.Numbers.{sum_number, product_number, minus_number, power_number, raise_number}
 use Rattle.reason.proofs.SoundRows.{row-explained}
@@ -10,7 +9,7 @@ use Rattle.reason_call.proofs.row_reason.Goals as goal
 
 pub row-words-requires : goal.row-words-requires
 row-words-requires c =
-    (c.requires.plan_length_in_bounds, omega (arith, sound-count c.args.plan.now c.requires.plan_value))
+    record { plan_length_in_bounds = c.requires.plan_length_in_bounds; r_lt_most_rows = omega (arith, sound-count c.args.plan.now c.requires.plan_value) }
 
 pub returns-then-kind-lt-SUM : goal.returns-then-kind-lt-SUM
 returns-then-kind-lt-SUM c =
@@ -22,7 +21,7 @@ pub operand-left-requires : goal.operand-left-requires
 operand-left-requires c =
     let asked = c.requires in
     let facts = row-explained c.args.plan.now asked.plan_length_in_bounds asked.plan_value c.args.r asked.r_bound c.row-words.ensures.result_value in
-    (asked.plan_length_in_bounds, (asked.plan_value, facts.left (omega arith)))
+    record { plan_length_in_bounds = asked.plan_length_in_bounds; plan_value = asked.plan_value; r_bound = facts.left (omega arith) }
 
 pub returns-then-kind-eq-MINUS : goal.returns-then-kind-eq-MINUS
 returns-then-kind-eq-MINUS c =
@@ -45,7 +44,7 @@ pub operand-right-requires : goal.operand-right-requires
 operand-right-requires c =
     let asked = c.requires in
     let facts = row-explained c.args.plan.now asked.plan_length_in_bounds asked.plan_value c.args.r asked.r_bound c.row-words.ensures.result_value in
-    (asked.plan_length_in_bounds, (asked.plan_value, facts.right (omega arith) c.if-kind-eq-MINUS.false c.if-kind-eq-LITERAL_POWER.false))
+    record { plan_length_in_bounds = asked.plan_length_in_bounds; plan_value = asked.plan_value; r_bound = facts.right (omega arith) c.if-kind-eq-MINUS.false c.if-kind-eq-LITERAL_POWER.false }
 
 pub product_reason-requires : goal.product_reason-requires
 product_reason-requires c = record { length_bound = c.operand-left.ensures.length_bound; length_bound_2 = c.operand-right.ensures.length_bound }

@@ -1,6 +1,5 @@
 -- `alike_folds`: all but two sum chains that are too long together.
 use borrow.Author.Tests.{eq-eqb, ne_eqb}
-use borrow.Author.Rules.{rules}
 use Rattle.reason_numbers.proofs.alike_folds.Goals as goal
 
 pub returns-then-left-ne-SUM_CHAIN : goal.returns-then-left-ne-SUM_CHAIN

@@ -1,6 +1,5 @@
 -- `has_word` asks the left operand, then the right one.
 use mathlib.Core.Path.{sym, ◌∙◌}
-use borrow.Author.Rules.{rules}
 use Rattle.reason_numbers.proofs.has_word.Goals as goal
 
 pub returns-then-is_word : goal.returns-then-is_word

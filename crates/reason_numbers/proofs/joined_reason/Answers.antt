@@ -1,7 +1,6 @@
 -- `joined_reason`: an operator, then both chains of one kind.
 use mathlib.Core.Path.{sym, ◌∙◌}
 use borrow.Author.Tests.{eq-eqb, ne_eqb}
-use borrow.Author.Rules.{rules}
 use Rattle.reason.proofs.Numbers.{joined_number}
 use Rattle.reason_numbers.proofs.joined_reason.Goals as goal
 

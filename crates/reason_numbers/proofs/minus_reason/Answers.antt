@@ -1,5 +1,4 @@
 -- `minus_reason` judges whether 01 folds the row.
-use borrow.Author.Rules.{rules}
 use Rattle.reason.proofs.Numbers.{minus_number}
 use Rattle.reason_numbers.proofs.minus_reason.Goals as goal
 

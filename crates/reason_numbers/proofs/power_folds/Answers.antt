@@ -1,14 +1,8 @@
 -- `power_folds`: no operator, and no sum chain that would be too long.
-use native.Mathlib.Nat.{mul-le-mul_right}
 use native.Mathlib.Omega.{arith}
 use borrow.Author.Tests.{lt-ltb, le-ltb, eq-eqb, ne_eqb}
 use Rattle.reason.proofs.Numbers.{power_folds}
 use Rattle.reason_numbers.proofs.power_folds.Goals as goal
-
--- GONE overflow-mul-result
--- 
---     let start = c.before.before.before.before.before in
---     omega (arith, mul-le-mul_right start.args.n start.requires.0)
 
 pub returns-then-operand-gt-PRODUCT_CHAIN : goal.returns-then-operand-gt-PRODUCT_CHAIN
 unfolding power_folds

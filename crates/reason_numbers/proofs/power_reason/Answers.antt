@@ -2,7 +2,6 @@
 use mathlib.Core.Path.{ap, ◌∙◌}
 use native.Mathlib.Omega.{arith}
 use borrow.Author.Tests.{lt-ltb, le-ltb}
-use borrow.Author.Rules.{rules}
 use Rattle.reason.proofs.Numbers.{judged, power_number}
 use Rattle.reason_numbers.proofs.power_reason.Goals as goal
 

@@ -1,7 +1,6 @@
 -- `product_folds`: a 1, a 0, and of constants and chains those of one kind, or with a constant.
 use mathlib.Core.Path.{sym, ◌∙◌}
 use borrow.Author.Tests.{eq-eqb, ne_eqb}
-use borrow.Author.Rules.{rules}
 use Rattle.reason.proofs.Numbers.{product_folds}
 use Rattle.reason_numbers.proofs.product_folds.Goals as goal
 

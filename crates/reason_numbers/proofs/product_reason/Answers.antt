@@ -1,6 +1,5 @@
 -- `product_reason` judges whether 01 folds the row, and else tells why not.
 use mathlib.Core.Path.{ap₂, ◌∙◌}
-use borrow.Author.Rules.{rules}
 use Rattle.reason.proofs.Numbers.{judged, product_number}
 use Rattle.reason_numbers.proofs.product_reason.Goals as goal
 

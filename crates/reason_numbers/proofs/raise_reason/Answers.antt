@@ -1,5 +1,4 @@
 -- `raise_reason` judges whether 01 folds the row.
-use borrow.Author.Rules.{rules}
 use Rattle.reason.proofs.Numbers.{raise_number}
 use Rattle.reason_numbers.proofs.raise_reason.Goals as goal
 

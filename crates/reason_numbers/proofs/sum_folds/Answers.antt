@@ -2,7 +2,6 @@
 use mathlib.Core.Path.{sym, ◌∙◌}
 use native.Mathlib.Omega.{arith}
 use borrow.Author.Tests.{lt-ltb, le-ltb}
-use borrow.Author.Rules.{rules}
 use Rattle.reason.proofs.Numbers.{sum_folds}
 use Rattle.reason_numbers.proofs.sum_folds.Goals as goal
 

@@ -19,6 +19,9 @@ pub shape_of-out : goal.shape_of-out
 shape_of-out c = omega arith
 
 pub returns : goal.returns
-returns c = record { wrote = joined (omega arith) c.write_byte-second.ensures
+returns c = record {
+  wrote = joined (omega arith) c.write_byte-second.ensures
       (joined (omega arith) c.write_byte-third.ensures
-      (joined (omega arith) c.write_byte-behind_word.ensures c.write_numbers.ensures.wrote)); upper_bound = omega arith }
+      (joined (omega arith) c.write_byte-behind_word.ensures c.write_numbers.ensures.wrote));
+  upper_bound = omega arith;
+}

@@ -21,5 +21,8 @@ shape_of-out c = omega arith
 pub returns : goal.returns
 returns c = let first = c.write_field-behind_a in
     let second = c.write_field-behind_b in
-    let third = c.write_field-behind_c in record { wrote = joined (omega arith) (joined (omega arith) (joined (omega arith) first.ensures.wrote second.ensures.wrote) third.ensures.wrote)
-          c.write_byte.ensures; upper_bound = omega arith }
+    let third = c.write_field-behind_c in record {
+      wrote = joined (omega arith) (joined (omega arith) (joined (omega arith) first.ensures.wrote second.ensures.wrote) third.ensures.wrote)
+          c.write_byte.ensures;
+      upper_bound = omega arith;
+    }

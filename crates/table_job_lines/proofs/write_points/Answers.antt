@@ -1,17 +1,10 @@
-use Prim.Native.Nat.{◌+◌, ◌-◌, ◌*◌, ◌≤◌}
-use mathlib.Core.Path.{◌≡◌, ap}
+use mathlib.Core.Path.{ap}
 use native.Mathlib.Omega.{arith}
-use borrow.Author.Rules.{rules}
-use lib.ListN.{length, take}
 use lib.Seq.{take_all}
-use Rattle.table_fields.specs.Writing.{Wrote}
 use Rattle.table_fields.proofs.Joining.{wrote_nothing, wrote_same}
 use Rattle.table.specs.Lines.{point_lines}
 use Rattle.table_progress.proofs.PointLines.{point_next}
 use Rattle.table_job_lines.proofs.write_points.Goals as goal
-
--- GONE overflow-add-i
---  omega arith
 
 pub loop-i-init : goal.loop-i-init
 unfolding point_lines

@@ -1,14 +1,9 @@
 -- `write_points` writes one line after the other. Invariant: the lines of the first i words stand in the buffer, 42 bytes each at most.
 use Prim.Native.Nat.{◌+◌, ◌-◌, ◌*◌, ◌≤◌}
-use mathlib.Core.Path.{◌≡◌, ap}
-use native.Mathlib.Omega.{arith}
-use borrow.Author.Rules.{rules}
+use mathlib.Core.Path.{◌≡◌}
 use lib.ListN.{length, take}
-use lib.Seq.{take_all}
 use Rattle.table_fields.specs.Writing.{Wrote}
-use Rattle.table_fields.proofs.Joining.{wrote_nothing, wrote_same}
 use Rattle.table.specs.Lines.{point_lines}
-use Rattle.table_progress.proofs.PointLines.{point_next}
 use Rattle.table_job_lines.proofs.write_points.Given as goal
 
 abbrev pub invariant-loop-i : goal.invariant-loop-i

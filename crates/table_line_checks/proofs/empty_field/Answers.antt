@@ -1,11 +1,9 @@
 use mathlib.Core.Path.{ap}
-use Prim.Native.Nat.{◌-◌, ◌≤◌}
 use native.Mathlib.Omega.{arith}
 use lib.ListN.{length}
-use borrow.Author.Rules.{rules}
 use Rattle.table.specs.Parts.{field}
 use Rattle.table.proofs.PartsFound.{empty_none, empty_some}
-use Rattle.table.proofs.PartsJudged.{NoneEmpty, none_yet, none_more, empty_found, empty_nowhere}
+use Rattle.table.proofs.PartsJudged.{none_yet, none_more, empty_found, empty_nowhere}
 use Rattle.table_line_checks.proofs.empty_field.Goals as goal
 
 pub loop-n-init : goal.loop-n-init

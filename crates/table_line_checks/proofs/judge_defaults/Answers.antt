@@ -1,7 +1,6 @@
 -- `judge_defaults` judges the line's shape, then its empty fields, then its numbers.
 use mathlib.Core.Path.{sym, ◌∙◌}
 use native.Mathlib.Omega.{arith}
-use borrow.Author.Rules.{rules}
 use Rattle.table.proofs.NumbersJudged.{defaults_misshapen, defaults_empty, defaults-numbers}
 use Rattle.table_line_checks.proofs.judge_defaults.Goals as goal
 

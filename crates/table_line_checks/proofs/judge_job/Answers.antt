@@ -1,6 +1,5 @@
 -- `judge_job` judges the line's own shape, then the numbers that are picked.
 use mathlib.Core.Path.{sym, ◌∙◌}
-use borrow.Author.Rules.{rules}
 use Rattle.table.proofs.NumbersJudged.{job_misshapen, job_numbers}
 use Rattle.table_line_checks.proofs.judge_job.Goals as goal
 

@@ -1,7 +1,6 @@
 -- `judge_numbers` takes the start, the step and the count in turn; the first that is bad decides.
 use mathlib.Core.Path.{◌∙◌}
 use borrow.Author.Tests.{not-true, not-false}
-use borrow.Author.Rules.{rules}
 use Rattle.table.proofs.NumbersJudged.{start_bad, step_bad, count_bad, none_bad}
 use Rattle.table_line_checks.proofs.judge_numbers.Goals as goal
 

@@ -1,12 +1,8 @@
 -- `same_bytes` looks at each pair of bytes. Invariant: the bytes passed are the same, so the rest decides.
-use mathlib.Core.Path.{◌≡◌, refl, sym, ap₂, ◌∙◌}
+use mathlib.Core.Path.{◌≡◌}
 use Prim.Native.Nat.{◌-◌, ◌≤◌}
-use native.Mathlib.Omega.{arith}
-use lib.ListN.{length, get_or, drop, drop_of_length-le}
-use borrow.Author.Tests.{eq-eqb, ne_eqb}
-use borrow.Author.Rules.{rules}
+use lib.ListN.{length, drop}
 use Rattle.table.specs.Judged.{same_bytes}
-use Rattle.table.proofs.PartsJudged.{same_next, same_differ}
 use Rattle.table_line_checks.proofs.same_bytes.Given as goal
 
 abbrev pub invariant-loop-i : goal.invariant-loop-i

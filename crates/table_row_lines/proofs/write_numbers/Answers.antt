@@ -28,11 +28,14 @@ pub shape_of-out : goal.shape_of-out
 shape_of-out c = omega arith
 
 pub returns : goal.returns
-returns c = record { wrote = joined (omega arith)
-          (joined (omega arith)
-          (joined (omega arith)
-          (joined (omega arith) c.write_byte-second.ensures
-          (joined (omega arith) c.write_byte-third.ensures (joined (omega arith) c.write_byte-behind_word.ensures c.write_field-behind_number.ensures.wrote)))
-          c.write_field-behind_first.ensures.wrote)
-          c.write_field-behind_end.ensures.wrote)
-          c.write_field.ensures.wrote; upper_bound = omega arith }
+returns c = record {
+  wrote = joined (omega arith)
+      (joined (omega arith)
+      (joined (omega arith)
+      (joined (omega arith) c.write_byte-second.ensures
+      (joined (omega arith) c.write_byte-third.ensures (joined (omega arith) c.write_byte-behind_word.ensures c.write_field-behind_number.ensures.wrote)))
+      c.write_field-behind_first.ensures.wrote)
+      c.write_field-behind_end.ensures.wrote)
+      c.write_field.ensures.wrote;
+  upper_bound = omega arith;
+}

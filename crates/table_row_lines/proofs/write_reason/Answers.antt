@@ -3,7 +3,6 @@ use mathlib.Core.Path.{ap, ◌∙◌}
 use mathlib.Core.List.{◌∷◌}
 use native.Mathlib.Omega.{arith}
 use lib.ListN.{length}
-use borrow.Author.Rules.{rules}
 use Rattle.table.specs.Parts.{tab}
 use Rattle.table_progress.proofs.Lengths.{reason_short}
 use Rattle.table_row_lines.proofs.ReasonFields.{reason_field}

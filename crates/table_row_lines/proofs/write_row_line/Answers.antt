@@ -4,7 +4,6 @@ use mathlib.Core.List.{List, [], ◌∷◌, ◌++◌}
 use Prim.Native.Nat.{ℕ, ◌-◌}
 use native.Mathlib.Omega.{arith}
 use lib.ListN.{drop, length-take}
-use borrow.Author.Rules.{rules}
 use Rattle.plan.specs.Row.{Row, first_byte, end_byte}
 use Rattle.plan.proofs.RowLaws.{slice-part}
 use Rattle.reason.specs.Wording.{reason_text}
@@ -19,8 +18,11 @@ front number x cost = 114 ∷ 111 ∷ 119 ∷ tab ∷ decimal number ++ tab ∷ 
 pub returns : goal.returns
 returns c = let x = c.args.row.now in
     let f = c.args.formula.now in
-    let room = c.requires.at_in_bounds in record { wrote = wrote_same (ap₂ (λ k s. front c.args.number x k ++ tab ∷ reason_text c.args.reason ++ tab ∷ s ++ line_feed ∷ [])
+    let room = c.requires.at_in_bounds in record {
+      wrote = wrote_same (ap₂ (λ k s. front c.args.number x k ++ tab ∷ reason_text c.args.reason ++ tab ∷ s ++ line_feed ∷ [])
           c.requires.cost_value (sym (slice-part (first_byte x) (end_byte x) f)))
           (joined (omega (arith, room))
           (joined (omega (arith, room)) (joined (omega (arith, room)) c.write_numbers-behind_cost.ensures.wrote c.write_reason-behind_reason.ensures.wrote) c.write_text-behind_text.ensures)
-          c.write_byte.ensures); upper_bound = omega (arith, c.write_text-behind_text.ensures.next, c.write_byte.ensures.next, length-take (end_byte x - first_byte x) (drop (first_byte x) f)) }
+          c.write_byte.ensures);
+      upper_bound = omega (arith, c.write_text-behind_text.ensures.next, c.write_byte.ensures.next, length-take (end_byte x - first_byte x) (drop (first_byte x) f));
+    }

@@ -1,6 +1,5 @@
 -- `write_text` writes a tab and then copies the text.
 use native.Mathlib.Omega.{arith}
-use borrow.Author.Rules.{rules}
 use Rattle.table_fields.proofs.Joining.{joined}
 use Rattle.table_progress.proofs.Holding.{text-wrote}
 use Rattle.table_row_lines.proofs.write_text.Goals as goal

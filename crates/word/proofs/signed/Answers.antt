@@ -2,9 +2,6 @@
 use Rattle.word.proofs.SignedWords.{read_low, read_high}
 use Rattle.word.proofs.signed.Goals as goal
 
--- GONE overflow-sub-result-2
---  high_fits c.before.args.word c.if1.false c.before.ranges.word.fits
-
 pub returns-then-word-lt-NEGATIVE : goal.returns-then-word-lt-NEGATIVE
 returns-then-word-lt-NEGATIVE c = read_low c.args.word c.if-word-lt-NEGATIVE.true
 

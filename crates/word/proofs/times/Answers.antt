@@ -3,14 +3,5 @@ use Rattle.std.proofs.Common.{◌∙◌}
 use Rattle.word.proofs.HalfWords.{from_halves}
 use Rattle.word.proofs.times.Goals as goal
 
--- GONE overflow-mul-cross
---  record { fits = halves_fit 4294967296 (omega arith) (omega arith) (omega arith) }
-
--- GONE overflow-mul-cross-2
---  record { fits = halves_fit 4294967296 (omega arith) (omega arith) (omega arith) }
-
--- GONE overflow-mul-wrapping-add-u64-2
---  record { fits = halves_fit 4294967296 (omega arith) (omega arith) (omega arith) }
-
 pub returns : goal.returns
 returns c = c.wrapping_add_u64.ensures.value ∙ from_halves 4294967296 c.args.a c.args.b

@@ -1,14 +1,10 @@
-use Prim.Native.Nat.{ℕ, ◌<◌}
 use native.Mathlib.Omega.{arith}
-use Rattle.plan.specs.Measures.{most_rows}
 use Rattle.fold.proofs.ReadBack.{some_rows}
-use Rattle.fold_operands.specs.Operands.{One}
-use Rattle.compile.proofs.Finding.{Reached, reached_root, reached_next, reached_leaf}
-use borrow.Author.Rules.{rules}
+use Rattle.compile.proofs.Finding.{reached_root, reached_next, reached_leaf}
 use Rattle.compile.proofs.machine.first_row.Goals as goal
 
--- GONE overflow-sub-r
---  omega (arith, c.before.requires.1.1.1.2.behind, some_rows c.before.requires.1.1.1.1)
+pub overflow_sub-r : goal.overflow_sub-r
+overflow_sub-r c = omega (arith, c.requires.ends.1.2.behind, some_rows c.requires.ends.1.1)
 
 pub loop-r-init : goal.loop-r-init
 loop-r-init c = (omega (arith, c.requires.end_le_most_rows, c.requires.ends.1.2.behind, some_rows c.requires.ends.1.1), λ first operand. reached_root c.args.plan.now first (c.args.end) operand)
@@ -17,7 +13,7 @@ pub word-requires : goal.word-requires
 word-requires c = record { plan_length_in_bounds = (c.requires.plan_length_in_bounds); r_lt_most_rows = c.loop-r.invariant.0; i_lt_row_length = omega arith }
 
 pub word-r-requires : goal.word-r-requires
-word-r-requires c = ((c.requires.plan_length_in_bounds), (c.loop-r.invariant.0, omega arith))
+word-r-requires c = record { plan_length_in_bounds = (c.requires.plan_length_in_bounds); r_lt_most_rows = c.loop-r.invariant.0; i_lt_row_length = omega arith }
 
 pub loop-r-smaller : goal.loop-r-smaller
 loop-r-smaller c = (reached_next c.args.plan.now c.requires.ends.0 (c.loop-r.r) (c.loop-r.invariant.1 c.requires.ends.0 c.requires.ends.1) (c.word.ensures) (c.word-r.ensures) (c.loop-r-test.true)).0

@@ -1,11 +1,8 @@
 -- `first_row` goes down from the operand's root. Invariant: row r is the root of a tree that begins where the operand does.
 use Prim.Native.Nat.{ℕ, ◌<◌}
-use native.Mathlib.Omega.{arith}
 use Rattle.plan.specs.Measures.{most_rows}
-use Rattle.fold.proofs.ReadBack.{some_rows}
 use Rattle.fold_operands.specs.Operands.{One}
-use Rattle.compile.proofs.Finding.{Reached, reached_root, reached_next, reached_leaf}
-use borrow.Author.Rules.{rules}
+use Rattle.compile.proofs.Finding.{Reached}
 use Rattle.compile.proofs.machine.first_row.Given as goal
 
 abbrev pub invariant-loop-r : goal.invariant-loop-r

@@ -5,27 +5,27 @@ use Rattle.compile.proofs.Nodes.{number_pushed, variable_pushed, minus-folded, p
 use borrow.Author.Rules.{rules}
 use Rattle.compile.proofs.machine.fold_node.Goals as goal
 
--- GONE overflow-add-result
--- 
---     let p = c.before.before.before.before.before.before.args.plan.now in
---     let end = c.before.before.before.before.before.before.args.end in
---     let start = c.before.before.before.before.before.before.args.start in
---     let step = c.before.before.before.before.before.before.args.step in
---     let long = c.before.before.before.before.before.before.requires.0 in
---     let comp = c.before.before.before.before.before.before.requires.1.4 in
---     let work = c.before.before.before.before.before.before.requires.1.5 in
---     omega (arith, few-rows start step p end long comp work)
+pub overflow_add-result : goal.overflow_add-result
+overflow_add-result c =
+    let p = c.args.plan.now in
+    let end = c.args.end in
+    let start = c.args.start in
+    let step = c.args.step in
+    let long = c.requires.plan_length_in_bounds in
+    let comp = c.requires.at_node.4 in
+    let work = c.requires.at_node.5 in
+    omega (arith, few-rows start step p end long comp work)
 
--- GONE overflow-add-result-2
--- 
---     let p = c.before.before.before.before.before.before.before.args.plan.now in
---     let end = c.before.before.before.before.before.before.before.args.end in
---     let start = c.before.before.before.before.before.before.before.args.start in
---     let step = c.before.before.before.before.before.before.before.args.step in
---     let long = c.before.before.before.before.before.before.before.requires.0 in
---     let comp = c.before.before.before.before.before.before.before.requires.1.4 in
---     let work = c.before.before.before.before.before.before.before.requires.1.5 in
---     omega (arith, few-rows start step p end long comp work)
+pub overflow_add-result-then-kind-eq-VARIABLE : goal.overflow_add-result-then-kind-eq-VARIABLE
+overflow_add-result-then-kind-eq-VARIABLE c =
+    let p = c.args.plan.now in
+    let end = c.args.end in
+    let start = c.args.start in
+    let step = c.args.step in
+    let long = c.requires.plan_length_in_bounds in
+    let comp = c.requires.at_node.4 in
+    let work = c.requires.at_node.5 in
+    omega (arith, few-rows start step p end long comp work)
 
 pub put_pair-requires : goal.put_pair-requires
 put_pair-requires c = let p = c.args.plan.now in
@@ -54,7 +54,7 @@ put_pair-requires-then-kind-eq-VARIABLE c =
     let long = c.requires.plan_length_in_bounds in
     let comp = c.requires.at_node.4 in
     let work = c.requires.at_node.5 in
-    (long, few-rows start step p end long comp work)
+    record { plan_length_in_bounds = long; r_lt_most_rows = few-rows start step p end long comp work }
 
 pub returns-then-kind-eq-VARIABLE : goal.returns-then-kind-eq-VARIABLE
 returns-then-kind-eq-VARIABLE c =
@@ -74,14 +74,11 @@ first_row-top-requires c =
     let step = c.args.step in
     let long = c.requires.plan_length_in_bounds in
     let comp = c.requires.at_node.4 in
-    let work = c.requires.at_node.5 in (
-      long,
-      (
-        omega (arith, few-rows start step p end long comp work),
-        top_asked start step p end long comp work c.if-kind-eq-NUMBER.false
-            c.if-kind-eq-VARIABLE.false,
-      ),
-    )
+    let work = c.requires.at_node.5 in record {
+      plan_length_in_bounds = long;
+      end_le_most_rows = omega (arith, few-rows start step p end long comp work);
+      ends = top_asked start step p end long comp work c.if-kind-eq-NUMBER.false c.if-kind-eq-VARIABLE.false;
+    }
 
 pub fold_minus-requires : goal.fold_minus-requires
 fold_minus-requires c = let p = c.args.plan.now in
@@ -90,8 +87,12 @@ fold_minus-requires c = let p = c.args.plan.now in
     let step = c.args.step in
     let long = c.requires.plan_length_in_bounds in
     let comp = c.requires.at_node.4 in
-    let work = c.requires.at_node.5 in record { plan_length_in_bounds = long; end_lt_most_rows = few-rows start step p end long comp work; one = minus_asked start step p end long comp work c.first_row-top.ensures
-            c.if-kind-eq-MINUS.true }
+    let work = c.requires.at_node.5 in record {
+      plan_length_in_bounds = long;
+      end_lt_most_rows = few-rows start step p end long comp work;
+      one = minus_asked start step p end long comp work c.first_row-top.ensures
+          c.if-kind-eq-MINUS.true;
+    }
 
 pub returns-then-kind-eq-MINUS : goal.returns-then-kind-eq-MINUS
 returns-then-kind-eq-MINUS c =
@@ -131,12 +132,10 @@ first_row-below-requires c =
     let step = c.args.step in
     let long = c.requires.plan_length_in_bounds in
     let comp = c.requires.at_node.4 in
-    let work = c.requires.at_node.5 in (
-      long,
-      below_asked start step p end long comp work c.first_row-top.ensures
-          c.if-kind-eq-NUMBER.false c.if-kind-eq-VARIABLE.false c.if-kind-eq-MINUS.false
-          c.if-kind-eq-LITERAL_POWER.false,
-    )
+    let work = c.requires.at_node.5 in
+    let below = below_asked start step p end long comp work c.first_row-top.ensures
+    c.if-kind-eq-NUMBER.false c.if-kind-eq-VARIABLE.false c.if-kind-eq-MINUS.false
+    c.if-kind-eq-LITERAL_POWER.false in record { plan_length_in_bounds = long; end_le_most_rows = below.0; ends = below.1 }
 
 pub fold_both-requires : goal.fold_both-requires
 fold_both-requires c = let p = c.args.plan.now in
@@ -145,10 +144,14 @@ fold_both-requires c = let p = c.args.plan.now in
     let step = c.args.step in
     let long = c.requires.plan_length_in_bounds in
     let comp = c.requires.at_node.4 in
-    let work = c.requires.at_node.5 in record { plan_length_in_bounds = long; end_lt_most_rows = few-rows start step p end long comp work; two = both_asked start step p end long comp work
-            c.first_row-top.ensures c.if-kind-eq-NUMBER.false
-            c.if-kind-eq-VARIABLE.false c.if-kind-eq-MINUS.false
-            c.if-kind-eq-LITERAL_POWER.false c.first_row-below.ensures }
+    let work = c.requires.at_node.5 in record {
+      plan_length_in_bounds = long;
+      end_lt_most_rows = few-rows start step p end long comp work;
+      two = both_asked start step p end long comp work
+          c.first_row-top.ensures c.if-kind-eq-NUMBER.false
+          c.if-kind-eq-VARIABLE.false c.if-kind-eq-MINUS.false
+          c.if-kind-eq-LITERAL_POWER.false c.first_row-below.ensures;
+    }
 
 pub returns : goal.returns
 returns c =

@@ -1,22 +1,7 @@
-use mathlib.Core.Path.{◌≡◌, refl}
-use Prim.Native.Nat.{◌-◌, ◌≤◌}
+use mathlib.Core.Path.{refl}
 use native.Mathlib.Omega.{arith}
-use lib.ListN.{length}
-use Rattle.plan.specs.Measures.{most_rows}
-use Rattle.formula.specs.Tree.{Tree}
-use Rattle.compile.specs.Machine.{Compilable, Written}
-use Rattle.compile.proofs.Turns.{Turn, counted, turn_first, turn_node, turn_next, turn_done}
-use borrow.Author.Rules.{rules}
+use Rattle.compile.proofs.Turns.{counted, turn_first, turn_node, turn_next, turn_done}
 use Rattle.compile.proofs.machine.fold_nodes.Goals as goal
-
--- GONE overflow-mul-at
---  omega (arith, c.before.loop.invariant.1, c.before.loop.invariant.2)
-
--- GONE overflow-add-at
---  omega (arith, c.before.loop.invariant.1, c.before.loop.invariant.2)
-
--- GONE overflow-add-n
---  omega (arith, c.before.before.before.before.before.loop.invariant.1, c.before.before.before.before.before.loop.invariant.2)
 
 pub loop-n-init : goal.loop-n-init
 loop-n-init c =
@@ -32,13 +17,11 @@ fold_place-end-requires c =
     let start = c.args.start in
     let step = c.args.step in
     let tree = c.requires.compilable in
-    let inv = c.loop-n.invariant in (
-      omega (arith, inv.0, c.requires.plan_length_in_bounds),
-      (
-        omega (arith, inv.2),
-        turn_node start step tree.0 tree.1 (inv.3 tree.0 tree.1 tree.2) (omega (arith, counted plan tree.0 tree.2)),
-      ),
-    )
+    let inv = c.loop-n.invariant in record {
+      plan_length_in_bounds = omega (arith, inv.0, c.requires.plan_length_in_bounds);
+      at_bound = omega (arith, inv.2);
+      at_place = turn_node start step tree.0 tree.1 (inv.3 tree.0 tree.1 tree.2) (omega (arith, counted plan tree.0 tree.2));
+    }
 
 pub loop-n-preserved : goal.loop-n-preserved
 loop-n-preserved c =

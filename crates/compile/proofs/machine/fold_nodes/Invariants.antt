@@ -1,13 +1,11 @@
 -- `fold_nodes` folds node after node. Invariant: some trees are finished, and the node words left make the tree of them.
-use mathlib.Core.Path.{◌≡◌, refl}
+use mathlib.Core.Path.{◌≡◌}
 use Prim.Native.Nat.{◌-◌, ◌≤◌}
-use native.Mathlib.Omega.{arith}
 use lib.ListN.{length}
 use Rattle.plan.specs.Measures.{most_rows}
 use Rattle.formula.specs.Tree.{Tree}
 use Rattle.compile.specs.Machine.{Compilable, Written}
-use Rattle.compile.proofs.Turns.{Turn, counted, turn_first, turn_node, turn_next, turn_done}
-use borrow.Author.Rules.{rules}
+use Rattle.compile.proofs.Turns.{Turn}
 use Rattle.compile.proofs.machine.fold_nodes.Given as goal
 
 abbrev pub invariant-loop-n : goal.invariant-loop-n

@@ -1,16 +1,15 @@
 -- `fold_place` folds the node at a place of the plan and puts its span on the root row of its tree.
 use native.Mathlib.Omega.{arith}
 use Rattle.compile.proofs.Nodes.{root_row, spanned}
-use borrow.Author.Rules.{rules}
 use Rattle.compile.proofs.machine.fold_place.Goals as goal
 
--- GONE overflow-sub-root
--- 
---     let args = c.before.before.before.before.before.before.before.before.before.args in
---     let pre = c.before.before.before.before.before.before.before.before.before.requires in
---     let (t, words, comp, work) = pre.1.1 in
---     let grown = c.before.before.fold-node.ensures t words _ _ comp work in
---     omega (arith, (root_row args.start args.step args.plan.now args.end pre.0 grown).0)
+pub overflow_sub-root : goal.overflow_sub-root
+overflow_sub-root c =
+    let args = c.args in
+    let pre = c.requires in
+    let (t, words, comp, work) = pre.at_place in
+    let grown = c.fold_node-behind.ensures t words _ _ comp work in
+    omega (arith, (root_row args.start args.step args.plan.now args.end pre.plan_length_in_bounds grown).0)
 
 pub put_span-requires : goal.put_span-requires
 put_span-requires c = let args = c.args in

@@ -2,16 +2,15 @@
 use mathlib.Core.Path.{ap, ◌∙◌, subst}
 use Prim.Native.Nat.{◌≤◌}
 use native.Mathlib.Omega.{arith}
-use lib.ListN.{length, length-set}
+use lib.ListN.{length}
 use Rattle.plan.specs.Measures.{most_rows}
 use Rattle.formula.specs.Tree.{span_of}
 use Rattle.fold.specs.Folding.{fold}
 use Rattle.compile.proofs.Assembled.{assembled, whole_length}
-use borrow.Author.Rules.{rules}
 use Rattle.compile.proofs.machine.fold_tree.Goals as goal
 
 -- GONE overflow-mul-clear
--- 
+--
 --     let tree = c.before.before.before.before.before.before.requires.1 in
 --     omega (
 --       arith,
@@ -22,7 +21,7 @@ use Rattle.compile.proofs.machine.fold_tree.Goals as goal
 --     )
 
 -- GONE overflow-sub-clear
--- 
+--
 --     let tree = c.before.before.before.before.before.before.requires.1 in
 --     omega (
 --       arith,
@@ -33,7 +32,7 @@ use Rattle.compile.proofs.machine.fold_tree.Goals as goal
 --     )
 
 -- GONE slice-bounds-clear-start
--- 
+--
 --     let tree = c.before.before.before.before.before.before.requires.1 in
 --     omega (
 --       arith,
@@ -44,7 +43,7 @@ use Rattle.compile.proofs.machine.fold_tree.Goals as goal
 --     )
 
 -- GONE slice-bounds-clear-end
--- 
+--
 --     omega (
 --       arith,
 --       length-set c.before.before.before.fold-nodes.new.0 0 c.before.before.before.fold-nodes.result,
@@ -64,7 +63,7 @@ shape_of-plan c =
     let tree = c.requires.compilable in
     let done = c.fold_nodes-rows in
     let at = done.ensures tree.0 tree.1 tree.2 in
-    ap length (assembled args.start args.step args.plan.now done.new.0 tree.0 done.result long (omega (arith, done.auto)) at
+    ap length (assembled args.start args.step args.plan.now done.new.plan tree.0 done.result long (omega (arith, done.auto)) at
     c.start-behind.ensures c.clear.ensures)
     ∙ whole_length (span_of tree.0) (fold 64 args.start args.step tree.0) args.plan.now (subst (λ n. n ≤ most_rows) at.rows at.few) long
 
@@ -72,6 +71,6 @@ pub returns : goal.returns
 returns c =
     let args = c.args in
     let done = c.fold_nodes-rows in
-    λ t comp w. assembled args.start args.step args.plan.now done.new.0 t done.result
+    λ t comp w. assembled args.start args.step args.plan.now done.new.plan t done.result
     c.requires.plan_length_in_bounds (omega (arith, done.auto))
     (done.ensures t comp w) c.start-behind.ensures c.clear.ensures

@@ -1,5 +1,4 @@
 -- `put_pair` puts the trimmed chain of two elements.
-use borrow.Author.Rules.{rules}
 use Rattle.compile.proofs.Pairs.{pair_placed}
 use Rattle.compile.proofs.machine.put_pair.Goals as goal
 

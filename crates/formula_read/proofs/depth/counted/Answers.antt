@@ -1,6 +1,5 @@
 -- `counted` counts one byte.
 use borrow.Author.Tests.{eq-eqb, ne_eqb}
-use borrow.Author.Rules.{rules}
 use Rattle.formula_read.proofs.depth.counted.Goals as goal
 
 pub returns-then-byte-which : goal.returns-then-byte-which

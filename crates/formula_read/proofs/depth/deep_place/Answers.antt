@@ -1,13 +1,6 @@
-use Prim.Native.Nat.{◌-◌}
 use native.Mathlib.Omega.{arith}
-use lib.Dec.{eqb}
-use lib.ListN.{length, get_or}
-use borrow.Author.Rules.{rules}
-use Rattle.formula_scan.proofs.BracketCount.{DeepSoFar, deep_starts, deep-found, deep_goes_on, deep_nowhere, counted-most}
+use Rattle.formula_scan.proofs.BracketCount.{deep_starts, deep-found, deep_goes_on, deep_nowhere}
 use Rattle.formula_read.proofs.depth.deep_place.Goals as goal
-
--- GONE overflow-add-if1
---  omega (arith, c.counted2.ensures, counted-most (eqb (get_or c.before.before.before.before.before.before.args.text.now c.before.before.before.before.loop.i 0) 41) c.before.before.before.before.loop.closed, c.before.before.before.before.loop.invariant.fewer, c.before.before.before.before.before.before.well_formed.0.1)
 
 pub loop-i-init : goal.loop-i-init
 loop-i-init c = deep_starts c.args.text.now

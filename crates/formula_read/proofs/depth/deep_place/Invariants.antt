@@ -1,10 +1,7 @@
 -- `deep_place` finds the first ( that is too deep. Invariant: the brackets passed are counted, and none was too deep.
 use Prim.Native.Nat.{◌-◌}
-use native.Mathlib.Omega.{arith}
-use lib.Dec.{eqb}
-use lib.ListN.{length, get_or}
-use borrow.Author.Rules.{rules}
-use Rattle.formula_scan.proofs.BracketCount.{DeepSoFar, deep_starts, deep-found, deep_goes_on, deep_nowhere, counted-most}
+use lib.ListN.{length}
+use Rattle.formula_scan.proofs.BracketCount.{DeepSoFar}
 use Rattle.formula_read.proofs.depth.deep_place.Given as goal
 
 abbrev pub invariant-loop-i : goal.invariant-loop-i

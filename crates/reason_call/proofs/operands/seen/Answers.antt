@@ -2,7 +2,6 @@
 use mathlib.Core.Path.{refl, ap, ap₂, ◌∙◌}
 use native.Mathlib.Omega.{arith}
 use borrow.Author.Tests.{eq-eqb, ne_eqb}
-use borrow.Author.Rules.{rules}
 use Rattle.plan.specs.Row.{kind, first_element, is_chain}
 use Rattle.reason.proofs.TreeLaws.{chain_seen, seen_in}
 use Rattle.reason_call.proofs.operands.seen.Goals as goal

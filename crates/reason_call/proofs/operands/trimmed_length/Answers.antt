@@ -3,7 +3,6 @@ use Prim.Native.Nat.{ℕ, ◌+◌, ◌-◌, ◌≤◌, ◌<◌}
 use native.Mathlib.Omega.{arith}
 use lib.ListN.{length, get_or, take, drop, length-take, length-drop}
 use lib.Seq.{length-take-le, get_or-take, get_or-drop}
-use borrow.Author.Rules.{rules}
 use Rattle.chain.specs.Chain.{trimmed}
 use Rattle.chain.proofs.Trimming.{trailing_dropped, trailing_stopped, trailing_none}
 use Rattle.plan.specs.Measures.{elements_start, element_count, row_length}
@@ -34,9 +33,11 @@ returns-then-row-last c =
     let asked = c.requires in
     let row = args.row.now in
     let turn = c.loop-last in
+    let all =
     found args.unit turn.last row asked.row_len turn.invariant.0
     (turn.invariant.1 ∙ trailing_stopped args.unit (elements row) turn.last (omega arith) (omega (arith, length-elements row asked.row_len))
-    (λ e. c.if-row-last.true (sym (element row turn.last (omega arith)) ∙ e)))
+    (λ e. c.if-row-last.true (sym (element row turn.last (omega arith)) ∙ e))) in
+    record { value = all.0; upper_bound = all.1 }
 
 pub loop-last-preserved : goal.loop-last-preserved
 loop-last-preserved c =
@@ -56,6 +57,8 @@ returns c =
     let row = args.row.now in
     let turn = c.loop-last in
     let none : turn.last ≡ 0 = omega arith in
+    let all =
     found args.unit 0 row asked.row_len (omega arith)
     (turn.invariant.1 ∙ ap (λ n. trimmed args.unit (take (n + 1) (elements row))) none
-    ∙ trailing_none args.unit (elements row) (omega (arith, length-elements row asked.row_len)))
+    ∙ trailing_none args.unit (elements row) (omega (arith, length-elements row asked.row_len))) in
+    record { value = all.0; upper_bound = all.1 }
