@@ -1,6 +1,6 @@
 -- Each way through a step and through the end of the input: refused, within a line, at the end of a line.
 use mathlib.Core.Path.{◌≡◌, refl, sym, ap, ap₂, subst, ◌∙◌}
-use mathlib.Core.Bool.{Bool, true, false, cond, not}
+use mathlib.Core.Bool.{Bool, true, false, cond}
 use mathlib.Core.List.{List, [], ◌∷◌, ◌++◌, append-nil}
 use Prim.Native.Nat.{ℕ, suc, ◌+◌, ◌-◌, ◌≤◌, ◌<◌}
 use native.Mathlib.Nat.{zero-add, sub-zero}
@@ -8,7 +8,7 @@ use native.Mathlib.Omega.{arith}
 use lib.Dec.{eqb, ltb}
 use lib.ListN.{length, take, drop, take-append-drop}
 use lib.Seq.{length-take-le, drop-length, take-append_seam, drop-drop}
-use borrow.Author.Tests.{not-true, not-false, lt-ltb, ne_eqb, eq-eqb}
+use borrow.Author.Tests.{lt-ltb, ne_eqb, eq-eqb}
 use Rattle.formula.specs.Refusals.{count}
 use Rattle.plan.proofs.RowLaws.{part, part_put, part-put, tail_part}
 use Rattle.table_fields.specs.Writing.{Wrote}
@@ -52,18 +52,18 @@ pub record Accepted (p : Progress) (b : Buffers) : Type 0 where
   pub room : Ready p b
 
 module _ (p : Progress) (b : Buffers) {room : Bool} (tested : room ≡ has_room b) where
-  pub no_room : not room ≡ true → ready p b ≡ false
-  no_room e = rw (← tested, not-true room e)
+  pub no_room : room ≡ false → ready p b ≡ false
+  no_room e = rw (← tested, e)
 
-  module _ (enough : not room ≡ false) {far : Bool} (tested-too : far ≡ is_within_bounds p) where
+  module _ (enough : room ≡ true) {far : Bool} (tested-too : far ≡ is_within_bounds p) where
     has_room_lem : has_room b ≡ true
-    has_room_lem = sym tested ∙ not-false room enough
+    has_room_lem = sym tested ∙ enough
 
-    pub out_of_bounds : not far ≡ true → ready p b ≡ false
-    out_of_bounds e = rw (has_room_lem, ← tested-too, not-true far e)
+    pub out_of_bounds : far ≡ false → ready p b ≡ false
+    out_of_bounds e = rw (has_room_lem, ← tested-too, e)
 
-    pub accepted : not far ≡ false → Accepted p b
-    accepted e = let tests : ready p b ≡ true = rw (has_room_lem, sym tested-too ∙ not-false far e) in record { is-ready = tests; room = is-ready p b tests }
+    pub accepted : far ≡ true → Accepted p b
+    accepted e = let tests : ready p b ≡ true = rw (has_room_lem, sym tested-too ∙ e) in record { is-ready = tests; room = is-ready p b tests }
 
 -- ---- refused
 module _ (tool : Tool) (p : Progress) (b : Buffers) where

@@ -20,7 +20,7 @@ fold_tree-requires c = let text = c.args.text.now in
     let plan = c.args.plan.now in
     let start = c.args.start in
     let step = c.args.step in
-    let found = read-accepted text plan (omega arith) c.read_spanned-read.ensures c.if-read-ne0.false in record { plan_length_in_bounds = omega (arith, found.4); compilable = (found.0, accepted_compilable start step found.1, found.2) }
+    let found = read-accepted text plan (omega arith) c.read_spanned-read.ensures (omega arith) in record { plan_length_in_bounds = omega (arith, found.4); compilable = (found.0, accepted_compilable start step found.1, found.2) }
 
 pub returns : goal.returns
 returns c =
@@ -29,4 +29,4 @@ returns c =
     let start = c.args.start in
     let step = c.args.step in
     read_compiled text plan (omega arith) start step c.read_spanned-read.ensures
-    c.if-read-ne0.false c.fold_tree.ensures
+    (omega arith) c.fold_tree.ensures

@@ -1,7 +1,6 @@
 -- `print_plan` writes the job's line, and behind it the points or the rows.
 use mathlib.Core.Path.{refl}
 use native.Mathlib.Omega.{arith}
-use borrow.Author.Rules.{rules}
 use Rattle.plan.proofs.Accepting.{accepted}
 use Rattle.table_progress.proofs.AllPoints.{plan-printed}
 use Rattle.table_jobs.proofs.print_plan.Goals as goal
@@ -22,10 +21,10 @@ write_rows-requires c = record { plan_value = c.requires.plan_value; texts_withi
 pub returns-in-Tables : goal.returns-in-Tables
 returns-in-Tables c =
     plan-printed c.args.n c.args.formula.now c.args.plan.now c.args.table.now c.requires.plan_value
-    c.cost-cost.ensures c.write_job_line-at.ensures.wrote c.enum_told-1.given.1
+    c.cost-cost.ensures c.write_job_line-at.ensures.wrote c.in-Tables.is
     c.print_points.ensures.wrote c.print_points.ensures.plan_after c.print_points.ensures.table_after
 
 pub returns-in-Reasons : goal.returns-in-Reasons
 returns-in-Reasons c =
     plan-printed c.args.n c.args.formula.now c.args.plan.now c.args.table.now c.requires.plan_value
-    c.cost-cost.ensures c.write_job_line-at.ensures.wrote c.enum_told-in-Reasons-1.given.1 c.write_rows.ensures refl refl
+    c.cost-cost.ensures c.write_job_line-at.ensures.wrote c.in-Reasons.is c.write_rows.ensures refl refl

@@ -1,6 +1,5 @@
 -- `print_points` fills, and writes the points.
 use native.Mathlib.Omega.{arith}
-use borrow.Author.Rules.{rules}
 use Rattle.table_progress.proofs.AllPoints.{points-printed}
 use Rattle.table_jobs.proofs.print_points.Goals as goal
 
@@ -18,5 +17,7 @@ shape_of-out c = omega arith
 
 pub returns : goal.returns
 returns c =
+    let so =
     points-printed c.args.plan.now c.args.table.now _ c.requires.plan_value (omega arith) (omega arith)
-    c.fill.ensures.table_after c.fill.ensures.plan_after c.write_points.ensures
+    c.fill.ensures.table_after c.fill.ensures.plan_after c.write_points.ensures in
+    record { wrote = so.0; plan_after = so.1.0; table_after = so.1.1 }

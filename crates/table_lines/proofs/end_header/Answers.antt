@@ -7,10 +7,13 @@ use Rattle.table_lines.proofs.end_header.Goals as goal
 pub returns-then-is_header : goal.returns-then-is_header
 returns-then-is_header c =
     let args = c.args in
-    header_taken args.line.now args.out.now (sym c.is_header.ensures ∙ c.if-is_header.true)
+    let so = header_taken args.line.now args.out.now (sym c.is_header.ensures ∙ c.if-is_header.true) in
+    record { progress_value = so.0; wrote = so.1 }
 
 pub returns : goal.returns
 returns c =
     let args = c.args in
+    let so =
     header_refused args.line.now args.out.now (sym c.is_header.ensures ∙ c.if-is_header.false)
-    c.ended.ensures c.write_no_line-wrote.ensures
+    c.ended.ensures c.write_no_line-wrote.ensures in
+    record { progress_value = so.0; wrote = so.1 }

@@ -6,17 +6,17 @@ use Rattle.table_lines.proofs.end_input.Goals as goal
 pub returns-in-Header : goal.returns-in-Header
 returns-in-Header c =
     let args = c.args in
-    end_header args.out.now c.enum_told-1.given.1 c.write_no_line.ensures
+    end_header args.out.now c.in-Header.is c.write_no_line.ensures
 
 pub returns-in-Defaults : goal.returns-in-Defaults
 returns-in-Defaults c =
     let args = c.args in
-    end-defaults args.out.now c.enum_told-in-Defaults-1.given.1 c.write_no_line-in-Defaults.ensures
+    end-defaults args.out.now c.in-Defaults.is c.write_no_line-in-Defaults.ensures
 
 pub returns-in-Job : goal.returns-in-Job
 returns-in-Job c =
-    end_job c.args.out.now c.enum_told-in-Job-1.given.1
+    end_job c.args.out.now c.in-Job.is
 
 pub returns-in-Nothing : goal.returns-in-Nothing
 returns-in-Nothing c =
-    end-nothing c.args.out.now c.enum_told-in-Nothing-1.given.1
+    end-nothing c.args.out.now c.in-Nothing.is

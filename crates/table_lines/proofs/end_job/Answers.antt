@@ -14,5 +14,7 @@ print_job-requires c = let args = c.args in
 pub returns : goal.returns
 returns c =
     let args = c.args in
+    let so =
     job_ended args.tool args.n args.line.now args.defaults.now args.plan.now args.table.now args.out.now (omega arith)
-    c.judge_job-judged.ensures c.pick-formula.ensures c.print_job.ensures
+    c.judge_job-judged.ensures c.pick-formula.ensures c.print_job.ensures in
+    record { wrote = so.0; plan_after = so.1.0; table_after = so.1.1 }

@@ -1,6 +1,5 @@
 -- `write_row` passes over a row of kinds 0 to 2, and writes the line of another.
 use native.Mathlib.Omega.{arith}
-use borrow.Author.Rules.{rules}
 use Rattle.plan.proofs.Accepting.{accepted}
 use Rattle.plan.proofs.SoundLaws.{sound-count, row_facts}
 use Rattle.table_progress.proofs.RowLines.{row-text, reason_known, nothing_written, line-printed}
@@ -34,5 +33,8 @@ write_row_line-requires c = let p = c.args.plan.now in
 
 pub returns : goal.returns
 returns c = let wrote = c.write_row_line.ensures in
-    let p = c.args.plan.now in record { wrote = line-printed c.args.formula.now p c.requires.plan_value c.args.r c.requires.r_bound c.row-words.ensures.result_value (omega arith)
-          c.row_reason-reason.ensures wrote.wrote; upper_bound = wrote.upper_bound }
+    let p = c.args.plan.now in record {
+      wrote = line-printed c.args.formula.now p c.requires.plan_value c.args.r c.requires.r_bound c.row-words.ensures.result_value (omega arith)
+          c.row_reason-reason.ensures wrote.wrote;
+      upper_bound = wrote.upper_bound;
+    }

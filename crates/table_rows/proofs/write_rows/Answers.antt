@@ -1,13 +1,8 @@
-use Prim.Native.Nat.{◌+◌, ◌-◌, ◌*◌, ◌≤◌}
 use mathlib.Core.Path.{◌≡◌, ap}
 use native.Mathlib.Omega.{arith}
-use borrow.Author.Rules.{rules}
-use lib.ListN.{length}
-use Rattle.plan.specs.Measures.{most_rows}
 use Rattle.plan.specs.Plan.{row_count}
 use Rattle.plan.proofs.Accepting.{accepted}
 use Rattle.plan.proofs.SoundLaws.{sound-count}
-use Rattle.table_fields.specs.Writing.{Wrote}
 use Rattle.table_fields.proofs.Joining.{wrote_nothing, wrote_same}
 use Rattle.table_progress.specs.Printed.{rows_print}
 use Rattle.table_progress.proofs.RowLines.{row_next}

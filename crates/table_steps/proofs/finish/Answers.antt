@@ -7,19 +7,14 @@ use Rattle.table_progress.specs.Runs.{lent}
 use Rattle.table_progress.proofs.StepsTaken.{no_room, out_of_bounds, accepted, end_refused, end-done}
 use Rattle.table_steps.proofs.finish.Goals as goal
 
--- GONE overflow-add-all
--- 
---     let end = c.before.before.end-input in
---     let lasted = c.before.before.before.before.before.before.before.before.before.before.before.before.before in
---     let last = lasted.last_line in
---     let same = last.auto.1.1.1.1.1.1.0 in
---     let good = lasted.before.before.before.before.before.before.before.before.before.before.before.before.before.before.well_formed in
---     omega (
---       arith,
---       good.1.1.1.1.1.1.0,
---       same,
---       rear_fits last.new.1.1.1.1.1.1.0 last.result.wrote (omega (arith, last.ensures.1, same)) (end.ensures 0 0 []) end.auto.1.0,
---     )
+pub overflow_add-all : goal.overflow_add-all
+overflow_add-all c =
+    let last = c.last_line-done in
+    omega (
+      arith,
+      last.auto.out,
+      rear_fits last.new.out last.result.wrote (omega (arith, last.ensures.wrote_in_bounds, last.auto.out)) (c.end_input-more.ensures 0 0 []) c.end_input-more.auto.out,
+    )
 
 pub returns-then-not-have_room : goal.returns-then-not-have_room
 returns-then-not-have_room c =
@@ -42,10 +37,16 @@ last_line-done-requires c =
     let b = lent args.line.now args.defaults.now args.plan.now args.table.now args.out.now in
     let so =
     accepted args.progress b c.have_room.ensures c.if-not-have_room.false
-    c.is_within_bounds.ensures c.if-not-is_within_bounds.false in (
-      omega (arith, so.room.held, so.room.line),
-      (so.room.defaults, (so.room.kept, (so.room.number, (so.room.plan, (so.room.table, so.room.out))))),
-    )
+    c.is_within_bounds.ensures c.if-not-is_within_bounds.false in
+    record {
+      held_in_bounds = omega (arith, so.room.held, so.room.line);
+      in_bounds = so.room.defaults;
+      kept_bound = so.room.kept;
+      number_bound = so.room.number;
+      plan_length_in_bounds = so.room.plan;
+      in_bounds_2 = so.room.table;
+      most_printed_in_bounds = so.room.out;
+    }
 
 pub returns : goal.returns
 returns c =
@@ -56,5 +57,5 @@ returns c =
     let so =
     accepted args.progress b c.have_room.ensures c.if-not-have_room.false
     c.is_within_bounds.ensures c.if-not-is_within_bounds.false in
-    end-done args.tool args.progress b so.is-ready (omega (arith, last.ensures.wrote_in_bounds, last.auto.1.1.1.1.1.1.0)) last.ensures.out_after
-    (c.end_input-more.ensures reached.number reached.kept last.new.1.1.1.0) c.ended.ensures
+    end-done args.tool args.progress b so.is-ready (omega (arith, last.ensures.wrote_in_bounds, last.auto.out)) last.ensures.out_after
+    (c.end_input-more.ensures reached.number reached.kept last.new.defaults) c.ended.ensures

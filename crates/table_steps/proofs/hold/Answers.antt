@@ -7,9 +7,11 @@ use Rattle.table_steps.proofs.hold.Goals as goal
 pub returns-then-more-room : goal.returns-then-more-room
 returns-then-more-room c =
     let args = c.args in
-    held_all args.held args.line.now args.more.now (omega arith) (omega arith) (omega arith) c.UNKNOWN.copy.ensures.1
+    let so = held_all args.held args.line.now args.more.now (omega arith) (omega arith) (omega arith) c.copy_from_slice.ensures.after in
+    record { value = so.0; line_after = so.1 }
 
 pub returns : goal.returns
 returns c =
     let args = c.args in
-    held_some args.held args.line.now args.more.now (omega arith) (omega arith) (omega arith) c.UNKNOWN.copy2.ensures.1
+    let so = held_some args.held args.line.now args.more.now (omega arith) (omega arith) (omega arith) c.copy_from_slice-2.ensures.after in
+    record { value = so.0; line_after = so.1 }

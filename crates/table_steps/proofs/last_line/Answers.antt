@@ -12,10 +12,17 @@ returns-then-held-eq0 c = let args = c.args in
     let b = lent args.line.now args.defaults.now args.plan.now args.table.now args.out.now in record { out_after = last_none args.tool args.progress b c.if-held-eq0.true; wrote_in_bounds = omega arith }
 
 pub returns : goal.returns
-returns c = let done = c.end_line in
+returns c =
+    let ended = c.end_line in
+    let done = ended.ensures in
     let args = c.args in
-    let asked = c.requires in
     let b = lent args.line.now args.defaults.now args.plan.now args.table.now args.out.now in
     let room = length args.out.now - 67 in
-    let same = done.auto.1.1.1.1.1.1.0 in
-    let fits = last_fits args.tool args.progress b c.if-held-eq0.false asked.held_in_bounds room (omega arith) done.ensures (omega (arith, same)) in record { out_after = last_some args.tool args.progress b c.if-held-eq0.false asked.held_in_bounds room (omega arith) done.ensures (omega (arith, same)); wrote_in_bounds = omega (arith, fits, asked.most_printed_in_bounds) }
+    let inside = c.requires.held_in_bounds in
+    let fits = last_fits args.tool args.progress b c.if-held-eq0.false inside room (omega arith)
+      (done.progress_value, (done.wrote, (done.defaults_after, (done.plan_after, done.table_after)))) ended.auto.out in
+    record {
+      out_after = last_some args.tool args.progress b c.if-held-eq0.false inside room (omega arith)
+      (done.progress_value, (done.wrote, (done.defaults_after, (done.plan_after, done.table_after)))) ended.auto.out;
+      wrote_in_bounds = omega (arith, fits, c.requires.most_printed_in_bounds);
+    }

@@ -9,48 +9,6 @@ use Rattle.fold.specs.Folding.{fold}
 use Rattle.compile.proofs.Assembled.{assembled, whole_length}
 use Rattle.compile.proofs.machine.fold_tree.Goals as goal
 
--- GONE overflow-mul-clear
---
---     let tree = c.before.before.before.before.before.before.requires.1 in
---     omega (
---       arith,
---       (c.before.before.before.fold-nodes.ensures tree.0 tree.1 tree.2).few,
---       c.before.before.before.fold-nodes.auto,
---       c.before.before.before.before.before.before.requires.0,
---       c.start.ensures,
---     )
-
--- GONE overflow-sub-clear
---
---     let tree = c.before.before.before.before.before.before.requires.1 in
---     omega (
---       arith,
---       (c.before.before.before.fold-nodes.ensures tree.0 tree.1 tree.2).few,
---       c.before.before.before.fold-nodes.auto,
---       c.before.before.before.before.before.before.requires.0,
---       c.start.ensures,
---     )
-
--- GONE slice-bounds-clear-start
---
---     let tree = c.before.before.before.before.before.before.requires.1 in
---     omega (
---       arith,
---       (c.before.before.before.fold-nodes.ensures tree.0 tree.1 tree.2).few,
---       c.before.before.before.fold-nodes.auto,
---       c.before.before.before.before.before.before.requires.0,
---       c.start.ensures,
---     )
-
--- GONE slice-bounds-clear-end
---
---     omega (
---       arith,
---       length-set c.before.before.before.fold-nodes.new.0 0 c.before.before.before.fold-nodes.result,
---       c.before.before.before.fold-nodes.auto,
---       c.before.before.before.before.before.before.requires.0,
---     )
-
 pub start-behind-requires : goal.start-behind-requires
 start-behind-requires c =
     let tree = c.requires.compilable in

@@ -24,6 +24,6 @@ kept-requires c =
 pub returns : goal.returns
 returns c =
     let args = c.args in
-    put-trimmed args.plan.now args.r args.elements (search rules) c.if-elements-eq0.false
+    put-trimmed args.plan.now args.r args.elements (search rules) (λ z. omega arith)
     c.trimmed_length-last.ensures c.kept.ensures
     c.put_chain-2.ensures
