@@ -4,7 +4,7 @@ ghost use Rattle.std.specs.Prelude.{◌≤◌, length};
 
 use crate::plans;
 use edges_calls::{chains, probes};
-use edges_print as print;
+use edges_print as printing;
 use edges_text::words;
 use std::io;
 
@@ -13,24 +13,24 @@ pub fn turn(rt: &impl Print, name: &[u8], body: &[u8]) -> io::Result<()> {
     let f = chains::work(body);
     let elements = f.elements;
     let answer = chain_calls::shift(elements, f.length);
-    print::text(rt, name)?;
-    print::answer(rt, print::TAB, answer.number, answer.place)?;
+    printing::text(rt, name)?;
+    printing::answer(rt, printing::TAB, answer.number, answer.place)?;
     probes::signed(rt, answer.crossing)?;
-    print::label(rt, print::LINE)
+    printing::label(rt, printing::LINE)
 }
 
 // Fills the lent words, and answers the points written: number place points spent sum.
 fn count(rt: &impl Print, plan: &mut [u64], table: &mut [u64], budget: u64) -> io::Result<usize> {
     let answer = plan_eras::fill_eras(plan, table, budget);
-    print::text(rt, b"\teras ")?;
-    print::number(rt, answer.number)?;
-    print::label(rt, print::BLANK)?;
-    print::number(rt, answer.place)?;
-    print::label(rt, print::BLANK)?;
-    print::number(rt, answer.points as u64)?;
-    print::label(rt, print::BLANK)?;
-    print::number(rt, answer.spent)?;
-    print::label(rt, print::BLANK)?;
+    printing::text(rt, b"\teras ")?;
+    printing::number(rt, answer.number)?;
+    printing::label(rt, printing::BLANK)?;
+    printing::number(rt, answer.place)?;
+    printing::label(rt, printing::BLANK)?;
+    printing::number(rt, answer.points as u64)?;
+    printing::label(rt, printing::BLANK)?;
+    printing::number(rt, answer.spent)?;
+    printing::label(rt, printing::BLANK)?;
     probes::signed(rt, answer.sum)?;
     Ok(answer.points)
 }

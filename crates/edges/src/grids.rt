@@ -1,7 +1,7 @@
 // A formula on 36 grids: a line for each grid, with the plan's rows, cost and checksum, and 12 values.
 // The values are filled in one call, and in several uneven ones from a plan that is compiled again; the line says if they differ.
 use crate::plans;
-use edges_print as print;
+use edges_print as printing;
 use edges_text::words;
 use plan::PLAN_WORDS;
 use std::io;
@@ -50,39 +50,39 @@ fn print_plan(
     plan: &[u64],
     cost: u64,
 ) -> io::Result<()> {
-    print::answer(rt, print::TAB, answer.number, answer.place)?;
-    print::label(rt, print::ROWS)?;
-    print::number(rt, words::word_at(plan, 0))?;
-    print::label(rt, print::BLANK)?;
-    print::label(rt, print::COST)?;
-    print::number(rt, cost)?;
-    print::label(rt, print::SUM)?;
-    print::number(rt, words::checksum(plan))?;
-    print::label(rt, print::BLANK)?;
-    print::label(rt, print::VALUES)
+    printing::answer(rt, printing::TAB, answer.number, answer.place)?;
+    printing::label(rt, printing::ROWS)?;
+    printing::number(rt, words::word_at(plan, 0))?;
+    printing::label(rt, printing::BLANK)?;
+    printing::label(rt, printing::COST)?;
+    printing::number(rt, cost)?;
+    printing::label(rt, printing::SUM)?;
+    printing::number(rt, words::checksum(plan))?;
+    printing::label(rt, printing::BLANK)?;
+    printing::label(rt, printing::VALUES)
 }
 
 fn on_grid(rt: &impl Print, formula: &[u8], start: u64, step: u64) -> io::Result<()> {
     let mut plan = [words::UNREAD; PLAN_WORDS];
     let mut once = [words::UNREAD; VALUES];
     let mut parts = [words::UNREAD; VALUES];
-    print::label(rt, print::GRID)?;
-    print::number(rt, start)?;
-    print::label(rt, print::COMMA)?;
-    print::number(rt, step)?;
-    print::label(rt, print::BLANK)?;
-    print::text(rt, formula)?;
+    printing::label(rt, printing::GRID)?;
+    printing::number(rt, start)?;
+    printing::label(rt, printing::COMMA)?;
+    printing::number(rt, step)?;
+    printing::label(rt, printing::BLANK)?;
+    printing::text(rt, formula)?;
     let answer = plans::compiled(formula, start, step, &mut plan);
     let cost = plans::cost(&plan);
     print_plan(rt, answer, &plan, cost.cost)?;
     plans::filled(&mut plan, &mut once, MOST);
-    print::list(rt, &once, VALUES)?;
+    printing::list(rt, &once, VALUES)?;
     plans::compiled(formula, start, step, &mut plan);
     fill_parts(&mut plan, &mut parts, cost.cost);
     if !is_same(&once, &parts) {
-        print::label(rt, print::DIFFERS)?;
+        printing::label(rt, printing::DIFFERS)?;
     }
-    print::label(rt, print::LINE)
+    printing::label(rt, printing::LINE)
 }
 
 pub fn each(rt: &impl Print, formula: &[u8]) -> io::Result<()> {

@@ -1,6 +1,6 @@
 // A whole job file, run by the steps of a run, and what they wrote.
 // A line writes it with > for a tab and / for a line feed, and so is the output shown. Where a line prints much, it is told by a checksum.
-use edges_print as print;
+use edges_print as printing;
 use edges_text::{notation, text, words};
 use std::io;
 use table::Tool;
@@ -48,16 +48,16 @@ fn show(rt: &impl Print, stepped: Stepped, out: &mut [u8]) -> io::Result<()> {
     let count = words::at_most(stepped.wrote, out.len());
     let sum = exchange(&mut out[0..count]);
     if !stepped.ok {
-        print::label(rt, print::NOT_DONE)?;
+        printing::label(rt, printing::NOT_DONE)?;
     }
     if count <= MOST_SHOWN {
-        return print::text(rt, &out[0..count]);
+        return printing::text(rt, &out[0..count]);
     }
-    print::label(rt, print::SUM)?;
-    print::number(rt, sum)?;
-    print::label(rt, print::OF)?;
-    print::number(rt, count as u64)?;
-    print::label(rt, print::BYTES)
+    printing::label(rt, printing::SUM)?;
+    printing::number(rt, sum)?;
+    printing::label(rt, printing::OF)?;
+    printing::number(rt, count as u64)?;
+    printing::label(rt, printing::BYTES)
 }
 
 // What the next step is given: all that is left, or one of uneven pieces of 1 to 5 bytes.
@@ -115,7 +115,7 @@ fn run_input(rt: &impl Print, input: &[u8], is_cut: bool) -> io::Result<()> {
     let mut plan = [words::UNREAD; plan::PLAN_WORDS];
     let mut table = [words::UNREAD; MOST_POINTS];
     let mut out = [0u8; MOST_PRINTED];
-    print::label(rt, print::TAB)?;
+    printing::label(rt, printing::TAB)?;
     run_steps(
         rt,
         input,
@@ -134,9 +134,9 @@ pub fn run(rt: &impl Print, line: &[u8]) -> io::Result<()> {
     let length = notation::expand(line, &mut input);
     exchange(&mut input);
     let file = text::part(&input, 0, length);
-    print::label(rt, print::JOBS)?;
-    print::text(rt, line)?;
+    printing::label(rt, printing::JOBS)?;
+    printing::text(rt, line)?;
     run_input(rt, file, false)?;
     run_input(rt, file, true)?;
-    print::label(rt, print::LINE)
+    printing::label(rt, printing::LINE)
 }

@@ -8,7 +8,7 @@ mod jobs;
 mod plans;
 
 use edges_calls::{backward, chains, formulas, probes};
-use edges_print as print;
+use edges_print as printing;
 use edges_text::{input, notation, text};
 use std::io;
 
@@ -30,7 +30,7 @@ fn case(rt: &impl Print, section: u8, line: &[u8], expanded: &[u8]) -> io::Resul
         b'p' => plans::run(rt, line, expanded),
         b'g' => grids::each(rt, line),
         b'j' => jobs::run(rt, line),
-        _ => print::label(rt, print::NO_SECTION),
+        _ => printing::label(rt, printing::NO_SECTION),
     }
 }
 
@@ -66,6 +66,6 @@ fn main(rt: HostRuntime) -> io::Result<()> {
     if count < 65536 {
         walk(&rt, &cases[..count])
     } else {
-        print::label(&rt, print::TOO_LONG)
+        printing::label(&rt, printing::TOO_LONG)
     }
 }

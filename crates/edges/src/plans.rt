@@ -4,7 +4,7 @@ ghost use Rattle.std.specs.Prelude.{◌≤◌, length};
 ghost use Rattle.plan.specs.Measures.{most_rows};
 
 use crate::eras;
-use edges_print as print;
+use edges_print as printing;
 use edges_text::rows::{ELEMENTS_END, END_BYTE};
 use edges_text::{rows, text, words};
 use plan::{MOST_ROWS, PLAN_WORDS, ROW_WORDS};
@@ -27,19 +27,19 @@ fn print_rows(rt: &impl Print, plan: &[u64], most: usize) -> io::Result<()>
     requires { most ≤ most_rows }
 {
     let counted = words::word_at(plan, 0);
-    print::label(rt, print::PLAN)?;
-    print::number(rt, counted)?;
-    print::label(rt, print::COLON)?;
+    printing::label(rt, printing::PLAN)?;
+    printing::number(rt, counted)?;
+    printing::label(rt, printing::COLON)?;
     let words = ROW_WORDS * words::at_most(counted as usize, most);
     let mut i = 0;
     while i < words {
         let place = i % ROW_WORDS;
         if place == 0 {
-            print::label(rt, print::BLANK)?;
-            print::number(rt, words::word_at(plan, 1 + i))?;
+            printing::label(rt, printing::BLANK)?;
+            printing::number(rt, words::word_at(plan, 1 + i))?;
         } else if !words::is_painted(plan, 1 + i, ELEMENTS_END + i - place, 0) {
-            print::label(rt, print::COMMA)?;
-            print::number(rt, words::word_at(plan, 1 + i))?;
+            printing::label(rt, printing::COMMA)?;
+            printing::number(rt, words::word_at(plan, 1 + i))?;
         }
         i += 1;
     }
@@ -49,17 +49,17 @@ fn print_rows(rt: &impl Print, plan: &[u64], most: usize) -> io::Result<()>
 // first..end of every row; none where more rows are counted than a plan has.
 fn print_spans(rt: &impl Print, plan: &[u64]) -> io::Result<()> {
     let count = words::word_at(plan, 0) as usize;
-    print::text(rt, b"\tspans")?;
+    printing::text(rt, b"\tspans")?;
     if MOST_ROWS < count {
         return Ok(());
     }
     let mut r = 0;
     while r < count {
         let end = END_BYTE + ROW_WORDS * r;
-        print::label(rt, print::BLANK)?;
-        print::number(rt, words::word_at(plan, end - 1))?;
-        print::text(rt, b"..")?;
-        print::number(rt, words::word_at(plan, end))?;
+        printing::label(rt, printing::BLANK)?;
+        printing::number(rt, words::word_at(plan, end - 1))?;
+        printing::text(rt, b"..")?;
+        printing::number(rt, words::word_at(plan, end))?;
         r += 1;
     }
     Ok(())
@@ -67,14 +67,14 @@ fn print_spans(rt: &impl Print, plan: &[u64]) -> io::Result<()> {
 
 // The words of the table that were written and two more, at most 22; the number of rows and the first 10; and the checksums.
 pub fn print_lent(rt: &impl Print, table: &[u64], points: usize, plan: &[u64]) -> io::Result<()> {
-    print::label(rt, print::TABLE)?;
-    print::list(rt, table, words::at_most(points, 20) + 2)?;
-    print::label(rt, print::SUM)?;
-    print::number(rt, words::checksum(table))?;
-    print::label(rt, print::BLANK)?;
+    printing::label(rt, printing::TABLE)?;
+    printing::list(rt, table, words::at_most(points, 20) + 2)?;
+    printing::label(rt, printing::SUM)?;
+    printing::number(rt, words::checksum(table))?;
+    printing::label(rt, printing::BLANK)?;
     print_rows(rt, plan, 10)?;
-    print::label(rt, print::SUM)?;
-    print::number(rt, words::checksum(plan))
+    printing::label(rt, printing::SUM)?;
+    printing::number(rt, words::checksum(plan))
 }
 
 // Asks everything of the lent words, and answers the points written.
@@ -82,15 +82,15 @@ fn ask(rt: &impl Print, plan: &mut [u64], table: &mut [u64], budget: u64) -> io:
     let sound = plan_sound::sound(plan);
     let cost = cost(plan);
     let fill = filled(plan, table, budget);
-    print::label(rt, print::TAB)?;
-    print::answer(rt, print::SOUND, sound.number, sound.place)?;
-    print::answer(rt, print::COST, cost.number, cost.place)?;
-    print::number(rt, cost.cost)?;
-    print::label(rt, print::BLANK)?;
-    print::answer(rt, print::FILL, fill.number, fill.place)?;
-    print::number(rt, fill.points as u64)?;
-    print::label(rt, print::BLANK)?;
-    print::number(rt, fill.spent)?;
+    printing::label(rt, printing::TAB)?;
+    printing::answer(rt, printing::SOUND, sound.number, sound.place)?;
+    printing::answer(rt, printing::COST, cost.number, cost.place)?;
+    printing::number(rt, cost.cost)?;
+    printing::label(rt, printing::BLANK)?;
+    printing::answer(rt, printing::FILL, fill.number, fill.place)?;
+    printing::number(rt, fill.points as u64)?;
+    printing::label(rt, printing::BLANK)?;
+    printing::number(rt, fill.spent)?;
     Ok(fill.points)
 }
 
@@ -114,17 +114,17 @@ fn fill(
 // refused one whether all words stayed.
 fn print_plan(rt: &impl Print, number: u64, plan: &[u64]) -> io::Result<()> {
     if number != 0 {
-        return print::kept(rt, plan, 0);
+        return printing::kept(rt, plan, 0);
     }
     let cost = cost(plan);
     let count = words::at_most(words::word_at(plan, 0) as usize, MOST_ROWS);
-    print::answer(rt, print::COST, cost.number, cost.place)?;
-    print::number(rt, cost.cost)?;
-    print::label(rt, print::BLANK)?;
+    printing::answer(rt, printing::COST, cost.number, cost.place)?;
+    printing::number(rt, cost.cost)?;
+    printing::label(rt, printing::BLANK)?;
     print_rows(rt, plan, MOST_ROWS)?;
-    print::clean(rt, plan, 1 + ROW_WORDS * count, PLAN_WORDS)?;
-    print::label(rt, print::BLANK)?;
-    print::kept(rt, plan, PLAN_WORDS)
+    printing::clean(rt, plan, 1 + ROW_WORDS * count, PLAN_WORDS)?;
+    printing::label(rt, printing::BLANK)?;
+    printing::kept(rt, plan, PLAN_WORDS)
 }
 
 fn compile_on(
@@ -139,8 +139,8 @@ fn compile_on(
 {
     words::paint(plan);
     let answer = compiled(formula, start, step, &mut plan[0..held]);
-    print::label(rt, print::TAB)?;
-    print::answer(rt, print::COMPILE, answer.number, answer.place)?;
+    printing::label(rt, printing::TAB)?;
+    printing::answer(rt, printing::COMPILE, answer.number, answer.place)?;
     print_plan(rt, answer.number, plan)
 }
 
@@ -193,8 +193,8 @@ pub fn run(rt: &impl Print, line: &[u8], tokens: &[u8]) -> io::Result<()> {
     let mut table = [words::UNREAD; 4096];
     let mut lent = PLAN_WORDS;
     let mut at = 0;
-    print::label(rt, print::PLAN)?;
-    print::text(rt, line)?;
+    printing::label(rt, printing::PLAN)?;
+    printing::text(rt, line)?;
     while at < tokens.len() {
         let blank = text::cut(tokens, at, b' ');
         lent = step(
@@ -206,5 +206,5 @@ pub fn run(rt: &impl Print, line: &[u8], tokens: &[u8]) -> io::Result<()> {
         )?;
         at = blank.after;
     }
-    print::label(rt, print::LINE)
+    printing::label(rt, printing::LINE)
 }

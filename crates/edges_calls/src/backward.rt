@@ -3,7 +3,7 @@
 use crate::chains;
 use crate::chains::Stack;
 use chain::ChainAnswer;
-use edges_print as print;
+use edges_print as printing;
 use std::io;
 
 // The letter I takes a forward chain one index back, i a backward one; e shifts a backward chain; B makes a forward chain a backward one, F a backward chain a
@@ -54,10 +54,10 @@ fn present(f: ChainAnswer) -> chain::ValueAnswer {
 // number place word
 pub fn value(rt: &impl Print, name: &[u8], body: &[u8]) -> io::Result<()> {
     let answer = present(chains::work(body));
-    print::text(rt, name)?;
-    print::answer(rt, print::TAB, answer.number, answer.place)?;
-    print::number(rt, answer.word)?;
-    print::label(rt, print::LINE)
+    printing::text(rt, name)?;
+    printing::answer(rt, printing::TAB, answer.number, answer.place)?;
+    printing::number(rt, answer.word)?;
+    printing::label(rt, printing::LINE)
 }
 
 // value,value,.. at 20 indices: the present value, and then what the letter makes of the chain, in turn
@@ -66,7 +66,7 @@ fn list(rt: &impl Print, letter: u8, given: ChainAnswer) -> io::Result<()> {
     let mut i = 0;
     while i < 20 {
         let present = present(f);
-        print::element(rt, present.word, i)?;
+        printing::element(rt, present.word, i)?;
         let next = changed(letter, f);
         f = next;
         i += 1;
@@ -78,12 +78,12 @@ fn list(rt: &impl Print, letter: u8, given: ChainAnswer) -> io::Result<()> {
 pub fn walk(rt: &impl Print, name: &[u8], body: &[u8]) -> io::Result<()> {
     let forward = chains::work(body);
     let backward = changed(b'B', forward);
-    print::text(rt, name)?;
-    print::label(rt, print::TAB)?;
+    printing::text(rt, name)?;
+    printing::label(rt, printing::TAB)?;
     list(rt, b'I', forward)?;
-    print::label(rt, print::BLANK)?;
+    printing::label(rt, printing::BLANK)?;
     list(rt, b'i', backward)?;
-    print::label(rt, print::BLANK)?;
+    printing::label(rt, printing::BLANK)?;
     list(rt, b'e', backward)?;
-    print::label(rt, print::LINE)
+    printing::label(rt, printing::LINE)
 }

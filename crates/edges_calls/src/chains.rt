@@ -2,7 +2,7 @@
 // How the words of a list are read is in `words`.
 use crate::backward;
 use chain::ChainAnswer;
-use edges_print as print;
+use edges_print as printing;
 use edges_text::{text, words};
 use std::io;
 
@@ -177,38 +177,38 @@ pub fn work(tokens: &[u8]) -> ChainAnswer {
 pub fn print(rt: &impl Print, name: &[u8], f: ChainAnswer) -> io::Result<()> {
     let list = f.elements;
     let count = words::at_most(f.length, 16) + 1;
-    print::text(rt, name)?;
-    print::answer(rt, print::TAB, f.number, f.place)?;
-    print::number(rt, f.length as u64)?;
-    print::label(rt, print::BLANK)?;
-    print::list(rt, &list, count)?;
-    print::clean(rt, &list, count, 17)?;
-    print::label(rt, print::LINE)
+    printing::text(rt, name)?;
+    printing::answer(rt, printing::TAB, f.number, f.place)?;
+    printing::number(rt, f.length as u64)?;
+    printing::label(rt, printing::BLANK)?;
+    printing::list(rt, &list, count)?;
+    printing::clean(rt, &list, count, 17)?;
+    printing::label(rt, printing::LINE)
 }
 
 // number place word
 pub fn value(rt: &impl Print, name: &[u8], body: &[u8]) -> io::Result<()> {
     let answer = present(work(body));
-    print::text(rt, name)?;
-    print::answer(rt, print::TAB, answer.number, answer.place)?;
-    print::number(rt, answer.word)?;
-    print::label(rt, print::LINE)
+    printing::text(rt, name)?;
+    printing::answer(rt, printing::TAB, answer.number, answer.place)?;
+    printing::number(rt, answer.word)?;
+    printing::label(rt, printing::LINE)
 }
 
 // value,value,.. at the first 20 indices: the present value and a shift in turn
 pub fn sequence(rt: &impl Print, name: &[u8], body: &[u8]) -> io::Result<()> {
-    print::text(rt, name)?;
-    print::label(rt, print::TAB)?;
+    printing::text(rt, name)?;
+    printing::label(rt, printing::TAB)?;
     let mut f = work(body);
     let mut i = 0;
     while i < 20 {
         let present = present(f);
-        print::element(rt, present.word, i)?;
+        printing::element(rt, present.word, i)?;
         let next = shifted(f);
         f = next;
         i += 1;
     }
-    print::label(rt, print::LINE)
+    printing::label(rt, printing::LINE)
 }
 
 // The chain of a list of coefficients, which may be empty or have more than 17 words.

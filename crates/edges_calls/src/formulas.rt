@@ -3,7 +3,7 @@
 ghost use Rattle.std.specs.Prelude.{◌≤◌, length};
 ghost use Rattle.formula.specs.Words.{most_nodes};
 
-use edges_print as print;
+use edges_print as printing;
 use edges_text::{text, words};
 use formula::{MOST_NODES, TREE_WORDS};
 use std::io;
@@ -17,12 +17,12 @@ fn nodes(rt: &impl Print, tree: &[u64], count: usize) -> io::Result<()>
     let mut i = 0;
     while i < count {
         if 0 < i {
-            print::label(rt, print::COMMA)?;
+            printing::label(rt, printing::COMMA)?;
         }
-        print::label(rt, print::BLANK)?;
-        print::number(rt, words::word_at(tree, 1 + 2 * i))?;
-        print::label(rt, print::BLANK)?;
-        print::number(rt, words::word_at(tree, 2 + 2 * i))?;
+        printing::label(rt, printing::BLANK)?;
+        printing::number(rt, words::word_at(tree, 1 + 2 * i))?;
+        printing::label(rt, printing::BLANK)?;
+        printing::number(rt, words::word_at(tree, 2 + 2 * i))?;
         i += 1;
     }
     Ok(())
@@ -32,16 +32,16 @@ fn nodes(rt: &impl Print, tree: &[u64], count: usize) -> io::Result<()>
 // refused one whether all words stayed.
 fn print_tree(rt: &impl Print, number: u64, tree: &[u64]) -> io::Result<()> {
     if number != 0 {
-        return print::kept(rt, tree, 0);
+        return printing::kept(rt, tree, 0);
     }
     let counted = words::word_at(tree, 0);
     let count = words::at_most(counted as usize, MOST_NODES);
-    print::number(rt, counted)?;
-    print::label(rt, print::COLON)?;
+    printing::number(rt, counted)?;
+    printing::label(rt, printing::COLON)?;
     nodes(rt, tree, count)?;
-    print::clean(rt, tree, 1 + 2 * count, TREE_WORDS)?;
-    print::label(rt, print::BLANK)?;
-    print::kept(rt, tree, TREE_WORDS)
+    printing::clean(rt, tree, 1 + 2 * count, TREE_WORDS)?;
+    printing::label(rt, printing::BLANK)?;
+    printing::kept(rt, tree, TREE_WORDS)
 }
 
 fn read(rt: &impl Print, formula: &[u8], count: usize, tree: &mut [u64]) -> io::Result<()>
@@ -49,21 +49,21 @@ fn read(rt: &impl Print, formula: &[u8], count: usize, tree: &mut [u64]) -> io::
 {
     words::paint(tree);
     let answer = formula_read::read(formula, &mut tree[0..count]);
-    print::answer(rt, print::TAB, answer.number, answer.place)?;
+    printing::answer(rt, printing::TAB, answer.number, answer.place)?;
     print_tree(rt, answer.number, tree)?;
-    print::label(rt, print::LINE)
+    printing::label(rt, printing::LINE)
 }
 
 // The case says how many words are lent, or nothing.
 pub fn reading(rt: &impl Print, name: &[u8], formula: &[u8], lent: &[u8]) -> io::Result<()> {
     let mut tree = [0u64; LENT_WORDS];
     let mut count = LENT_WORDS;
-    print::label(rt, print::READ)?;
-    print::text(rt, name)?;
+    printing::label(rt, printing::READ)?;
+    printing::text(rt, name)?;
     if 0 < lent.len() {
-        print::label(rt, print::INTO)?;
-        print::text(rt, lent)?;
-        print::label(rt, print::WORDS)?;
+        printing::label(rt, printing::INTO)?;
+        printing::text(rt, lent)?;
+        printing::label(rt, printing::WORDS)?;
         count = text::number(lent, 0) as usize;
     }
     read(rt, formula, words::at_most(count, LENT_WORDS), &mut tree)

@@ -1,25 +1,25 @@
 // The probe: a body is the reading, what was expected and the tolerance.
 // What is printed is the refusal's number and place, the offset and the verdict.
-use edges_print as print;
+use edges_print as printing;
 use edges_text::text;
 use std::io;
 
 pub fn signed(rt: &impl Print, offset: i64) -> io::Result<()> {
     if offset < 0 {
-        print::label(rt, print::MINUS)?;
-        print::number(rt, (-1 - offset) as u64 + 1)
+        printing::label(rt, printing::MINUS)?;
+        printing::number(rt, (-1 - offset) as u64 + 1)
     } else {
-        print::number(rt, offset as u64)
+        printing::number(rt, offset as u64)
     }
 }
 
 fn verdict_text(verdict: probe::Verdict) -> usize {
     match verdict {
-        probe::Verdict::NoVerdict => print::NONE,
-        probe::Verdict::Within => print::WITHIN,
-        probe::Verdict::Ahead => print::AHEAD,
-        probe::Verdict::Behind => print::BEHIND,
-        probe::Verdict::Unset => print::UNSET,
+        probe::Verdict::NoVerdict => printing::NONE,
+        probe::Verdict::Within => printing::WITHIN,
+        probe::Verdict::Ahead => printing::AHEAD,
+        probe::Verdict::Behind => printing::BEHIND,
+        probe::Verdict::Unset => printing::UNSET,
     }
 }
 
@@ -31,9 +31,9 @@ pub fn offset(rt: &impl Print, name: &[u8], body: &[u8]) -> io::Result<()> {
         text::number(text::after(rest, b','), 0),
     );
     let verdict = answer.verdict;
-    print::text(rt, name)?;
-    print::answer(rt, print::TAB, answer.number, answer.place)?;
+    printing::text(rt, name)?;
+    printing::answer(rt, printing::TAB, answer.number, answer.place)?;
     signed(rt, answer.offset)?;
-    print::label(rt, verdict_text(verdict))?;
-    print::label(rt, print::LINE)
+    printing::label(rt, verdict_text(verdict))?;
+    printing::label(rt, printing::LINE)
 }

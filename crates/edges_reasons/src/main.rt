@@ -4,7 +4,7 @@
 
 ghost use Rattle.std.specs.Prelude.{◌≤◌, length};
 
-use edges_print as print;
+use edges_print as printing;
 use edges_text::{input, notation, rows, text, words};
 use plan::{MOST_ROWS, PLAN_WORDS};
 use std::io;
@@ -12,12 +12,12 @@ use std::io;
 // number place reason first end
 fn ask(rt: &impl Print, plan: &[u64], row: u64) -> io::Result<()> {
     let answer = reason_call::reason(plan, row as usize);
-    print::answer(rt, print::TAB, answer.number, answer.place)?;
-    print::number(rt, answer.reason)?;
-    print::label(rt, print::BLANK)?;
-    print::number(rt, answer.first)?;
-    print::label(rt, print::BLANK)?;
-    print::number(rt, answer.end)
+    printing::answer(rt, printing::TAB, answer.number, answer.place)?;
+    printing::number(rt, answer.reason)?;
+    printing::label(rt, printing::BLANK)?;
+    printing::number(rt, answer.first)?;
+    printing::label(rt, printing::BLANK)?;
+    printing::number(rt, answer.end)
 }
 
 // Every row from row 0 to the one past the last.
@@ -43,9 +43,9 @@ fn compile_on(
     requires { held ≤ length plan.old }
 {
     let answer = compile::compile(formula, start, step, &mut plan[0..held]);
-    print::label(rt, print::TAB)?;
-    print::answer(rt, print::COMPILE, answer.number, answer.place)?;
-    print::number(rt, words::word_at(plan, 0))
+    printing::label(rt, printing::TAB)?;
+    printing::answer(rt, printing::COMPILE, answer.number, answer.place)?;
+    printing::number(rt, words::word_at(plan, 0))
 }
 
 // Does what a token says, and answers how many words of the plan are lent from then on. r5 asks for row 5; the others are those of `edges`.
@@ -83,7 +83,7 @@ fn run(rt: &impl Print, line: &[u8], tokens: &[u8]) -> io::Result<()> {
     let mut plan = [0u64; 3000];
     let mut lent = PLAN_WORDS;
     let mut at = 0;
-    print::text(rt, line)?;
+    printing::text(rt, line)?;
     while at < tokens.len() {
         let blank = text::cut(tokens, at, b' ');
         lent = step(rt, text::part(tokens, at, blank.end), lent, &mut plan)?;
@@ -92,7 +92,7 @@ fn run(rt: &impl Print, line: &[u8], tokens: &[u8]) -> io::Result<()> {
     let count = words::word_at(&plan, 0) as usize;
     let held = words::at_most(lent, plan.len());
     ask_all(rt, &plan[0..held], count)?;
-    print::label(rt, print::LINE)
+    printing::label(rt, printing::LINE)
 }
 
 // Runs a case, unless the line is empty or a comment.
@@ -124,6 +124,6 @@ fn main(rt: HostRuntime) -> io::Result<()> {
     if count < 65536 {
         walk(&rt, &cases[..count])
     } else {
-        print::label(&rt, print::TOO_LONG)
+        printing::label(&rt, printing::TOO_LONG)
     }
 }

@@ -1,6 +1,5 @@
 -- `otterchime_cost` lays out what `plan::cost` answers.
 use mathlib.Core.Path.{ap}
-use borrow.Author.Rules.{rules}
 use Rattle.otterchime.specs.Answers.{cost_words}
 use Rattle.otterchime.proofs.otterchime_cost.Goals as goal
 

@@ -12,9 +12,12 @@ use Rattle.otterchime.proofs.otterchime_fill_eras.Goals as goal
 pub returns : goal.returns
 returns c =
     let filled = c.fill_eras-r in
-    let same = to_z-of_z w64 filled.result.sum (search rules) in (
-      ap {B = List ℕ} (λ word. filled.result.number ∷ filled.result.place ∷ filled.result.points ∷ filled.result.spent ∷ word ∷ [])
+    let same = to_z-of_z w64 filled.result.sum (search rules) in
+    record {
+      answer_after =
+          ap {B = List ℕ} (λ word. filled.result.number ∷ filled.result.place ∷ filled.result.points ∷ filled.result.spent ∷ word ∷ [])
           (c.signed_word.ensures ∙ ap (word_of 64) same)
-          ∙ ap fill_eras_words filled.ensures.value,
-      filled.ensures.1,
-    )
+          ∙ ap fill_eras_words filled.ensures.value;
+      table_after = filled.ensures.table_after;
+      plan_after = filled.ensures.plan_after;
+    }

@@ -1,6 +1,5 @@
 -- `otterchime_reason` lays out what `reason_call::reason` answers.
 use mathlib.Core.Path.{refl}
-use borrow.Author.Rules.{rules}
 use Rattle.otterchime.proofs.otterchime_reason.Goals as goal
 
 pub returns : goal.returns

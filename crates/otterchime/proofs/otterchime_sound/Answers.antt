@@ -1,6 +1,5 @@
 -- `otterchime_sound` lays out what `plan::sound` answers.
 use mathlib.Core.Path.{ap}
-use borrow.Author.Rules.{rules}
 use Rattle.otterchime.specs.Answers.{sound_words}
 use Rattle.otterchime.proofs.otterchime_sound.Goals as goal
 

@@ -1,6 +1,5 @@
 -- `print_job` goes by the line's judgement, then by what compiling answers, and then prints the plan.
 use native.Mathlib.Omega.{arith}
-use borrow.Author.Rules.{rules}
 use borrow.Author.Tests.{not-true, not-false}
 use Rattle.table_progress.proofs.Jobs.{line_refused, formula_refused, formula_sound, formula_texts, formula_printed}
 use Rattle.table_jobs.proofs.print_job.Goals as goal
@@ -34,9 +33,14 @@ returns-then-answer-ne0 c =
     c.if-answer-ne0.true c.write_no_line-then-answer-ne0.ensures
 
 pub print_plan-requires : goal.print_plan-requires
-print_plan-requires c = let start = c.args in record { plan_value = formula_sound start.tool start.n start.job start.formula.now start.plan.now start.table.now start.out.now
-          c.requires.plan_len c.compile-answer.ensures c.if-answer-ne0.false; texts_within = formula_texts start.tool start.n start.job start.formula.now start.plan.now start.table.now start.out.now
-            c.requires.plan_len c.compile-answer.ensures c.if-answer-ne0.false; table_len_bound = omega arith; in_bounds = omega arith }
+print_plan-requires c = let start = c.args in record {
+  plan_value = formula_sound start.tool start.n start.job start.formula.now start.plan.now start.table.now start.out.now
+      c.requires.plan_len c.compile-answer.ensures c.if-answer-ne0.false;
+  texts_within = formula_texts start.tool start.n start.job start.formula.now start.plan.now start.table.now start.out.now
+      c.requires.plan_len c.compile-answer.ensures c.if-answer-ne0.false;
+  table_len_bound = omega arith;
+  in_bounds = omega arith;
+}
 
 pub shape_of-plan : goal.shape_of-plan
 shape_of-plan c = omega arith

@@ -1,7 +1,6 @@
 -- `print_plan` writes the job's line, and behind it the points or the rows.
 use mathlib.Core.Path.{refl}
 use native.Mathlib.Omega.{arith}
-use borrow.Author.Rules.{rules}
 use Rattle.plan.proofs.Accepting.{accepted}
 use Rattle.table_progress.proofs.AllPoints.{plan-printed}
 use Rattle.table_jobs.proofs.print_plan.Goals as goal

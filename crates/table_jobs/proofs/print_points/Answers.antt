@@ -1,6 +1,5 @@
 -- `print_points` fills, and writes the points.
 use native.Mathlib.Omega.{arith}
-use borrow.Author.Rules.{rules}
 use Rattle.table_progress.proofs.AllPoints.{points-printed}
 use Rattle.table_jobs.proofs.print_points.Goals as goal
 

@@ -7,4 +7,4 @@ abbrev pub invariant-loop-r : goal.invariant-loop-r
 invariant-loop-r g l = l.count ≤ most_rows
 
 abbrev pub decreases-loop-r : goal.decreases-loop-r
-decreases-loop-r g l = l.count - r
+decreases-loop-r g l = l.count - l.r

@@ -1,6 +1,5 @@
 -- `otterchime_backward_inverse_shift` lays out what `chain_backward::backward_inverse_shift` answers.
 use mathlib.Core.Path.{ap, ◌∙◌}
-use borrow.Author.Rules.{rules}
 use Rattle.otterchime.specs.Answers.{chain_words}
 use Rattle.otterchime.proofs.backward.otterchime_backward_inverse_shift.Goals as goal
 

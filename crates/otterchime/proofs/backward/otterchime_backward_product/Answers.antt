@@ -1,6 +1,5 @@
 -- `otterchime_backward_product` lays out what `chain_backward::backward_product` answers.
 use mathlib.Core.Path.{ap, ◌∙◌}
-use borrow.Author.Rules.{rules}
 use Rattle.otterchime.specs.Answers.{chain_words}
 use Rattle.otterchime.proofs.backward.otterchime_backward_product.Goals as goal
 

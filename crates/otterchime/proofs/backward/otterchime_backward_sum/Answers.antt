@@ -1,6 +1,5 @@
 -- `otterchime_backward_sum` lays out what `chain_backward::backward_sum` answers.
 use mathlib.Core.Path.{ap, ◌∙◌}
-use borrow.Author.Rules.{rules}
 use Rattle.otterchime.specs.Answers.{chain_words}
 use Rattle.otterchime.proofs.backward.otterchime_backward_sum.Goals as goal
 

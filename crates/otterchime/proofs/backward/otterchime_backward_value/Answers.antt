@@ -1,6 +1,5 @@
 -- `otterchime_backward_value` lays out what `chain_backward::backward_value` answers.
 use mathlib.Core.Path.{ap}
-use borrow.Author.Rules.{rules}
 use Rattle.otterchime.specs.Answers.{value_words}
 use Rattle.otterchime.proofs.backward.otterchime_backward_value.Goals as goal
 

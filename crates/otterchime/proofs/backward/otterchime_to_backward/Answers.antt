@@ -1,6 +1,5 @@
 -- `otterchime_to_backward` lays out what `chain_backward::to_backward` answers.
 use mathlib.Core.Path.{ap, ◌∙◌}
-use borrow.Author.Rules.{rules}
 use Rattle.otterchime.specs.Answers.{chain_words}
 use Rattle.otterchime.proofs.backward.otterchime_to_backward.Goals as goal
 

@@ -1,6 +1,5 @@
 -- `otterchime_to_forward` lays out what `chain_backward::to_forward` answers.
 use mathlib.Core.Path.{ap, ◌∙◌}
-use borrow.Author.Rules.{rules}
 use Rattle.otterchime.specs.Answers.{chain_words}
 use Rattle.otterchime.proofs.backward.otterchime_to_forward.Goals as goal
 

@@ -1,6 +1,5 @@
 -- `otterchime_difference` lays out what `chain::difference` answers.
 use mathlib.Core.Path.{ap, ◌∙◌}
-use borrow.Author.Rules.{rules}
 use Rattle.otterchime.specs.Answers.{chain_words}
 use Rattle.otterchime.proofs.chains.otterchime_difference.Goals as goal
 

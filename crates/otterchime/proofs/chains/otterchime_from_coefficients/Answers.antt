@@ -1,6 +1,5 @@
 -- `otterchime_from_coefficients` lays out what `chain::from_coefficients` answers.
 use mathlib.Core.Path.{ap, ◌∙◌}
-use borrow.Author.Rules.{rules}
 use Rattle.otterchime.specs.Answers.{chain_words}
 use Rattle.otterchime.proofs.chains.otterchime_from_coefficients.Goals as goal
 

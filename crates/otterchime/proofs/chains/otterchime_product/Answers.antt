@@ -1,6 +1,5 @@
 -- `otterchime_product` lays out what `chain::product` answers.
 use mathlib.Core.Path.{ap, ◌∙◌}
-use borrow.Author.Rules.{rules}
 use Rattle.otterchime.specs.Answers.{chain_words}
 use Rattle.otterchime.proofs.chains.otterchime_product.Goals as goal
 

@@ -1,6 +1,5 @@
 -- `otterchime_shift` lays out what `chain_calls::shift` answers.
 use mathlib.Core.Path.{ap, ◌∙◌}
-use borrow.Author.Rules.{rules}
 use Rattle.otterchime.specs.Answers.{shift_words}
 use Rattle.otterchime.proofs.chains.otterchime_shift.Goals as goal
 

@@ -1,6 +1,5 @@
 -- `otterchime_sum` lays out what `chain::sum` answers.
 use mathlib.Core.Path.{ap, ◌∙◌}
-use borrow.Author.Rules.{rules}
 use Rattle.otterchime.specs.Answers.{chain_words}
 use Rattle.otterchime.proofs.chains.otterchime_sum.Goals as goal
 

@@ -1,6 +1,5 @@
 -- `otterchime_trim` lays out what `chain::trim` answers.
 use mathlib.Core.Path.{ap, ◌∙◌}
-use borrow.Author.Rules.{rules}
 use Rattle.otterchime.specs.Answers.{chain_words}
 use Rattle.otterchime.proofs.chains.otterchime_trim.Goals as goal
 

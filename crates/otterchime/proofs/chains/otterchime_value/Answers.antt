@@ -1,6 +1,5 @@
 -- `otterchime_value` lays out what `chain::value` answers.
 use mathlib.Core.Path.{ap}
-use borrow.Author.Rules.{rules}
 use Rattle.otterchime.specs.Answers.{value_words}
 use Rattle.otterchime.proofs.chains.otterchime_value.Goals as goal
 

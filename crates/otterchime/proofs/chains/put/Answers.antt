@@ -1,13 +1,9 @@
 -- `put` stores number, place and length, and lays the elements behind them.
 use mathlib.Core.Path.{ap, sym, ◌∙◌}
-use native.Mathlib.Omega.{arith}
-use lib.ListN.{length, length-set}
+use lib.ListN.{length}
 use Rattle.chain_arrays.proofs.Laying.{laid-behind, length-laid}
 use borrow.Author.Rules.{rules}
 use Rattle.otterchime.proofs.chains.put.Goals as goal
-
--- GONE slice-bounds-lay-end
---  simp length-set (omega arith)
 
 pub shape_of-answer : goal.shape_of-answer
 shape_of-answer c = let r = c.args.r in ap length (laid-behind c.args.answer.now r.elements r.number r.place r.length (c.requires) (c.lay.ensures)) ∙ length-laid r.number r.place r.length r.elements (search rules) ∙ sym (c.requires)

@@ -1,8 +1,7 @@
 -- `put_shift` stores the crossing's word last, and lays the chain before it.
 use mathlib.Core.Path.{ap, sym, ◌∙◌}
 use mathlib.Core.List.{[], ◌∷◌, ◌++◌}
-use native.Mathlib.Omega.{arith}
-use lib.ListN.{length, length-set}
+use lib.ListN.{length}
 use mir.Syntax.{w64}
 use mir.ValLaws.{to_z-of_z}
 use borrow.Author.Rules.{rules}
@@ -10,9 +9,6 @@ use Rattle.word.specs.Signed.{word_of}
 use Rattle.chain_arrays.proofs.Laying.{length-laid}
 use Rattle.otterchime.proofs.Behind.{laid-before, length_before}
 use Rattle.otterchime.proofs.chains.put_shift.Goals as goal
-
--- GONE slice-bounds-put-end
---  simp length-set (omega arith)
 
 pub shape_of-answer : goal.shape_of-answer
 shape_of-answer c =
