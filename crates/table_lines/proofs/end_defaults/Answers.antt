@@ -5,7 +5,6 @@ use native.Mathlib.Nat.{sub-zero}
 use lib.ListN.{length, drop}
 use Rattle.table_progress.proofs.Holding.{front_length}
 use native.Mathlib.Omega.{arith}
-use borrow.Author.Rules.{rules}
 use borrow.Author.Tests.{not-true, not-false}
 use Rattle.table_progress.proofs.LinesEnded.{defaults-refused, defaults-taken, defaults-short}
 use Rattle.table_lines.proofs.end_defaults.Goals as goal

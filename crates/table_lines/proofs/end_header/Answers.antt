@@ -1,6 +1,5 @@
 -- `end_header` takes the header line, or ends the run.
 use mathlib.Core.Path.{sym, ◌∙◌}
-use borrow.Author.Rules.{rules}
 use Rattle.table_progress.proofs.LinesEnded.{header_taken, header_refused}
 use Rattle.table_lines.proofs.end_header.Goals as goal
 

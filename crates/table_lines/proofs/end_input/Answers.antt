@@ -1,5 +1,4 @@
 -- `end_input` prints a refusal where the header or the defaults line is still awaited.
-use borrow.Author.Rules.{rules}
 use Rattle.table_progress.proofs.LinesEnded.{end_header, end-defaults, end_job, end-nothing}
 use Rattle.table_lines.proofs.end_input.Goals as goal
 

@@ -1,7 +1,6 @@
 -- `end_job` judges the line, picks its formula, and prints the job in the plan's own words and the table's first 4,096.
 use native.Mathlib.Omega.{arith}
 use lib.Seq.{length-take-le}
-use borrow.Author.Rules.{rules}
 use Rattle.plan.specs.Measures.{plan_length}
 use Rattle.table_progress.proofs.LinesEnded.{few-points, job_ended}
 use Rattle.table_lines.proofs.end_job.Goals as goal

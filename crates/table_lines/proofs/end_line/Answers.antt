@@ -1,5 +1,4 @@
 -- `end_line` goes by the line that was awaited.
-use borrow.Author.Rules.{rules}
 use Rattle.table_progress.proofs.LinesEnded.{ended_header, ended-defaults, ended_job, ended-nothing}
 use Rattle.table_lines.proofs.end_line.Goals as goal
 
