@@ -1,7 +1,7 @@
 /* Otterchime: exact tables of formulas over words modulo 2^64, by chains of recurrences.
  *
  * This header declares the calls of the static library that `tools/archive` writes to target/staticlib/libotterchime.a
- * (Linux on x86-64). Each call is proved to meet the contract in crates/otterchime/src; docs/CONTRACTS.md lists them.
+ * (Linux on x86-64). Each call is proved to meet the contract in crates/otterchime_c/src; docs/CONTRACTS.md lists them.
  *
  * What holds for every call:
  *

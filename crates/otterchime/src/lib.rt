@@ -1,5 +1,5 @@
-// The door: the calls on formulas, plans, chains and readings once more, for C, in one style. Numbers and slices come in, and the answer goes into lent words:
-// word 0 the refusal's number, word 1 its place, then the call's own words (specs/Answers.antt).
+// The door: the calls on formulas, plans, chains and readings once more, in one style, as `otterchime_c` exports them for C. Numbers and slices come in, and the answer goes into
+// lent words: word 0 the refusal's number, word 1 its place, then the call's own words (specs/Answers.antt).
 // Compiling, filling, explaining and the probe are here, the chain calls in `chains` and `backward`.
 #![tactic(auto)]
 

@@ -1,6 +1,5 @@
 -- `ask_all` is safe and ends. Invariant: there are at most as many rows as a plan has.
 use Prim.Native.Nat.{◌+◌, ◌-◌, ◌≤◌}
-use borrow.Author.Rules.{rules}
 use Rattle.plan.specs.Measures.{most_rows}
 use Rattle.edges_reasons.proofs.ask_all.Given as goal
 

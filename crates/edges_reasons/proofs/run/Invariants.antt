@@ -2,7 +2,6 @@
 use mathlib.Core.Path.{◌≡◌}
 use Prim.Native.Nat.{◌-◌}
 use lib.ListN.{length}
-use borrow.Author.Rules.{rules}
 use Rattle.edges_reasons.proofs.run.Given as goal
 
 abbrev pub invariant-loop-at : goal.invariant-loop-at

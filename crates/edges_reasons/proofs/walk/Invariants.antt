@@ -1,7 +1,6 @@
 -- `walk` ends: each line begins after the one before it. Nothing has to hold from turn to turn.
 use Prim.Native.Nat.{◌-◌}
 use lib.ListN.{length}
-use borrow.Author.Rules.{rules}
 use Rattle.edges_reasons.proofs.walk.Given as goal
 
 abbrev pub invariant-loop-at : goal.invariant-loop-at

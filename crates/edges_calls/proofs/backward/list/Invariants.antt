@@ -1,5 +1,5 @@
 -- `list` ends after 20 turns. Nothing has to hold from turn to turn.
-use Rattle.std.proofs.Common.{◌-◌, rules}
+use Rattle.std.proofs.Common.{◌-◌}
 use Rattle.edges_calls.proofs.backward.list.Given as goal
 
 abbrev pub invariant-loop-i : goal.invariant-loop-i

@@ -1,5 +1,5 @@
 -- `sequence` ends after 20 turns. Nothing has to hold from turn to turn.
-use Rattle.std.proofs.Common.{◌-◌, rules}
+use Rattle.std.proofs.Common.{◌-◌}
 use Rattle.edges_calls.proofs.chains.sequence.Given as goal
 
 abbrev pub invariant-loop-i : goal.invariant-loop-i

@@ -1,5 +1,5 @@
 -- `formula_nodes` is safe and ends: there are at most 128 nodes. Nothing has to hold from turn to turn.
-use Rattle.std.proofs.Common.{◌-◌, rules}
+use Rattle.std.proofs.Common.{◌-◌}
 use Rattle.edges_calls.proofs.formulas.nodes.Given as goal
 
 abbrev pub invariant-loop-i : goal.invariant-loop-i
