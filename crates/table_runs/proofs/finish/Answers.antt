@@ -1,6 +1,5 @@
 -- `finish` lends the output buffer to the end of a run, which writes no more than it is lent.
 use native.Mathlib.Omega.{arith}
-use borrow.Author.Rules.{rules}
 use Rattle.table_progress.proofs.OutRoom.{end-within}
 use Rattle.table_runs.proofs.finish.Goals as goal
 

@@ -1,10 +1,7 @@
 -- `read_and_write` reads and takes steps, and counts its turns down.
 use mathlib.Core.Path.{◌≡◌}
 use Prim.Native.Nat.{◌≤◌}
-use native.Mathlib.Omega.{arith}
 use lib.ListN.{length}
-use borrow.Author.Tests.{ltb-true}
-use borrow.Author.Rules.{rules}
 use Rattle.table_runs.proofs.read_and_write.Given as goal
 
 abbrev pub invariant-loop-got : goal.invariant-loop-got

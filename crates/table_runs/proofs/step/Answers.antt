@@ -1,6 +1,5 @@
 -- `step` lends the rear of the output buffer to a step, which writes no more than it is lent.
 use native.Mathlib.Omega.{arith}
-use borrow.Author.Rules.{rules}
 use Rattle.table_progress.proofs.OutRoom.{step-within}
 use Rattle.table_runs.proofs.step.Goals as goal
 

@@ -1,10 +1,7 @@
 -- `take` takes steps while input is left: each accepted one uses a byte at least.
 use mathlib.Core.Path.{◌≡◌}
 use Prim.Native.Nat.{◌-◌, ◌≤◌}
-use native.Mathlib.Omega.{arith}
 use lib.ListN.{length}
-use borrow.Author.Tests.{not-false}
-use borrow.Author.Rules.{rules}
 use Rattle.table_runs.proofs.take.Given as goal
 
 abbrev pub invariant-loop-at : goal.invariant-loop-at
