@@ -7,11 +7,6 @@ use Rattle.formula.specs.Tree.{span}
 use Rattle.formula_scan.specs.Readers.{with_node, put}
 use Rattle.formula_nodes.proofs.joined_product.Goals as goal
 
--- GONE overflow-mul-odd
---
---     let start = c.before.before.before.before.before in
---     record { fits = omega (arith, odd_product start.args.left.odd start.args.right.odd start.requires.1.0 start.requires.1.1) }
-
 pub returns-then-left-eq0 : goal.returns-then-left-eq0
 returns-then-left-eq0 c = let alone = eq-eqb c.args.left.sign 0 c.if-left-eq0.true in record { value = rw alone; tree_after = rw alone }
 

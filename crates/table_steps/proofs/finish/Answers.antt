@@ -1,7 +1,6 @@
 -- `finish` tests the buffers and the progress, ends the line under way, and prints what the end of the input prints behind it.
 use mathlib.Core.List.{[]}
 use native.Mathlib.Omega.{arith}
-use borrow.Author.Rules.{rules}
 use Rattle.table_progress.proofs.Holding.{rear_fits}
 use Rattle.table_progress.specs.Runs.{lent}
 use Rattle.table_progress.proofs.StepsTaken.{no_room, out_of_bounds, accepted, end_refused, end-done}

@@ -1,6 +1,5 @@
 -- `hold` copies the bytes behind those that are held, all of them or as many as there is room for.
 use native.Mathlib.Omega.{arith}
-use borrow.Author.Rules.{rules}
 use Rattle.table_progress.proofs.Holding.{held_all, held_some}
 use Rattle.table_steps.proofs.hold.Goals as goal
 

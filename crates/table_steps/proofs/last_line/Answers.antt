@@ -1,8 +1,8 @@
 -- `last_line` ends the line under way, if bytes are held of it, and leaves room for what the end of the input prints.
+use mathlib.Core.Path.{◌≡◌}
 use Prim.Native.Nat.{◌-◌}
 use native.Mathlib.Omega.{arith}
 use lib.ListN.{length}
-use borrow.Author.Rules.{rules}
 use Rattle.table_progress.specs.Runs.{lent}
 use Rattle.table_progress.proofs.StepsTaken.{last_none, last_fits, last_some}
 use Rattle.table_steps.proofs.last_line.Goals as goal
@@ -18,11 +18,12 @@ returns c =
     let args = c.args in
     let b = lent args.line.now args.defaults.now args.plan.now args.table.now args.out.now in
     let room = length args.out.now - 67 in
+    let some : args.progress.held ≡ 0 → ⊥ = λ e. omega arith in
     let inside = c.requires.held_in_bounds in
-    let fits = last_fits args.tool args.progress b c.if-held-eq0.false inside room (omega arith)
-      (done.progress_value, (done.wrote, (done.defaults_after, (done.plan_after, done.table_after)))) ended.auto.out in
+    let fits = last_fits args.tool args.progress b some inside room (omega arith)
+    (done.progress_value, (done.wrote, (done.defaults_after, (done.plan_after, done.table_after)))) ended.auto.out in
     record {
-      out_after = last_some args.tool args.progress b c.if-held-eq0.false inside room (omega arith)
-      (done.progress_value, (done.wrote, (done.defaults_after, (done.plan_after, done.table_after)))) ended.auto.out;
+      out_after = last_some args.tool args.progress b some inside room (omega arith)
+          (done.progress_value, (done.wrote, (done.defaults_after, (done.plan_after, done.table_after)))) ended.auto.out;
       wrote_in_bounds = omega (arith, fits, c.requires.most_printed_in_bounds);
     }

@@ -1,6 +1,5 @@
 -- `step` tests the buffers and the progress, holds the bytes up to the line feed, and ends the line if there is one.
 use native.Mathlib.Omega.{arith}
-use borrow.Author.Rules.{rules}
 use Rattle.table.proofs.PartsFound.{found_inside}
 use Rattle.table_progress.proofs.Holding.{held_at_most}
 use Rattle.table_progress.specs.Runs.{lent}
