@@ -1,5 +1,5 @@
 -- `walk` ends: each line begins after the one before it. Nothing has to hold from turn to turn.
-use Rattle.std.proofs.Common.{◌-◌, length, rules}
+use Rattle.std.proofs.Common.{◌-◌, length}
 use Rattle.edges.proofs.walk.Given as goal
 
 abbrev pub invariant-loop-at : goal.invariant-loop-at

@@ -1,5 +1,5 @@
 -- `each` is safe and ends: there are 36 grids. Nothing has to hold from turn to turn.
-use Rattle.std.proofs.Common.{◌-◌, rules}
+use Rattle.std.proofs.Common.{◌-◌}
 use Rattle.edges.proofs.grids.each.Given as goal
 
 abbrev pub invariant-loop-i : goal.invariant-loop-i

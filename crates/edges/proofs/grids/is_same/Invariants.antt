@@ -1,5 +1,5 @@
 -- `is_same` is safe and ends: the index comes nearer to the number of the words. Nothing has to hold from turn to turn.
-use Rattle.std.proofs.Common.{◌-◌, length, rules}
+use Rattle.std.proofs.Common.{◌-◌, length}
 use Rattle.edges.proofs.grids.is_same.Given as goal
 
 abbrev pub invariant-loop-i : goal.invariant-loop-i

@@ -1,5 +1,5 @@
 -- `exchange` is safe and ends: it writes below the number of the bytes. Invariant: they keep their number.
-use Rattle.std.proofs.Common.{◌≡◌, ◌-◌, length, rules}
+use Rattle.std.proofs.Common.{◌≡◌, ◌-◌, length}
 use Rattle.edges.proofs.jobs.exchange.Given as goal
 
 abbrev pub invariant-loop-i : goal.invariant-loop-i

@@ -1,5 +1,5 @@
 -- `run_steps` ends: it counts its turns down. Invariant: the buffers keep their lengths.
-use Rattle.std.proofs.Common.{◌≡◌, length, rules}
+use Rattle.std.proofs.Common.{◌≡◌, length}
 use Rattle.edges.proofs.jobs.run_steps.Given as goal
 
 abbrev pub invariant-loop-left : goal.invariant-loop-left

@@ -1,5 +1,5 @@
 -- `print_rows` is safe and ends: there are at most 128 rows. Invariant: the words of the rows are at most those of a plan's rows.
-use Rattle.std.proofs.Common.{◌-◌, ◌≤◌, rules}
+use Rattle.std.proofs.Common.{◌-◌, ◌≤◌}
 use Rattle.plan.specs.Measures.{rows_length}
 use Rattle.edges.proofs.plans.print_rows.Given as goal
 

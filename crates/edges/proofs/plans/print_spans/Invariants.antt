@@ -1,5 +1,5 @@
 -- `print_spans` is safe and ends. Invariant: there are at most as many rows as a plan has.
-use Rattle.std.proofs.Common.{◌-◌, ◌≤◌, rules}
+use Rattle.std.proofs.Common.{◌-◌, ◌≤◌}
 use Rattle.plan.specs.Measures.{most_rows}
 use Rattle.edges.proofs.plans.print_spans.Given as goal
 

@@ -1,5 +1,5 @@
 -- `run` ends: each token begins after the one before it. Invariant: the plan and the table keep their number of words.
-use Rattle.std.proofs.Common.{◌≡◌, ◌-◌, length, rules}
+use Rattle.std.proofs.Common.{◌≡◌, ◌-◌, length}
 use Rattle.edges.proofs.plans.run.Given as goal
 
 abbrev pub invariant-loop-at : goal.invariant-loop-at
