@@ -2,7 +2,7 @@
 // What a run prints is decided in `table_steps`; here bytes are read and written, and buffers are lent.
 #![tactic(auto)]
 
-ghost use Rattle.std.specs.Prelude.{◌≡◌, true, ◌+◌, ◌≤◌, length, IfOk};
+ghost use Rattle.std.specs.Prelude.{◌≡◌, true, ◌+◌, ◌≤◌, length, IfOk, OnErr};
 
 use plan::PLAN_WORDS;
 use std::io;
@@ -113,7 +113,7 @@ fn finish(
     table_steps::finish(tool, progress, line, defaults, plan, table, out)
 }
 
-// A step with room made for it.
+// A step with room made for it. Where the write that makes room fails, nothing of what is lent has changed.
 fn turn<R: Print + Eprint>(
     rt: &R,
     tool: Tool,
@@ -129,6 +129,11 @@ fn turn<R: Print + Eprint>(
     ensures filled_in_bounds { IfOk result (λ next. next.filled ≤ length out.new) }
     ensures used_in_bounds { IfOk result (λ next. next.used ≤ length input.now) }
     ensures le_used { IfOk result (λ next. next.ok ≡ true → 1 ≤ length input.now → 1 ≤ next.used) }
+    ensures refused_line { OnErr result (line.new ≡ line.old) }
+    ensures refused_defaults { OnErr result (defaults.new ≡ defaults.old) }
+    ensures refused_plan { OnErr result (plan.new ≡ plan.old) }
+    ensures refused_table { OnErr result (table.new ≡ table.old) }
+    ensures refused_out { OnErr result (out.new ≡ out.old) }
 {
     let progress = going.progress;
     let begin = make_room(rt, out, going.filled)?;
