@@ -55,10 +55,10 @@ module _ (rows : ℕ → Row) where
           )
 
   -- ---- one operator, over the rows of its operands
-  module _ (n : ℕ) (whole : Span) (x : Row) (own_IsFirst : first_byte x ≡ first whole) (own-end : end_byte x ≡ end whole) where
+  module _ (n : ℕ) (whole : Span) (x : Row) (own_first : first_byte x ≡ first whole) (own-end : end_byte x ≡ end whole) where
     one_inside : (s : Span) (a : Folded) → Within s whole → Standing n (rows_from n s a) → Inside x (rows (root_row n a))
     one_inside s a h stands = record {
-      from = omega (arith, own_IsFirst, h.from, ap (λ y. first_byte y) (root_stands n s a stands), root_first n a s);
+      from = omega (arith, own_first, h.from, ap (λ y. first_byte y) (root_stands n s a stands), root_first n a s);
       upto = omega (arith, own-end, h.upto, ap (λ y. end_byte y) (root_stands n s a stands), root_end n a s);
     }
 
@@ -68,7 +68,7 @@ module _ (rows : ℕ → Row) where
         let there = root_stands n s.left a left in
         let also = root_stands (n + row_count a) s.right b right in
         record {
-          from = omega (arith, own_IsFirst, h.from, ap (λ y. first_byte y) there, root_first n a s.left);
+          from = omega (arith, own_first, h.from, ap (λ y. first_byte y) there, root_first n a s.left);
           between =
               omega (
                 arith,

@@ -1,5 +1,5 @@
 -- The probe of a reading against what was expected, with a tolerance. The width w of words is a parameter; the box has w = 64.
--- Signed numbers are the library's ℤ, and `lt_z a b` is its test of a < b. Laws about these definitions are in proofs/Laws.antt.
+-- Signed numbers are the library's ℤ, and `int_lt a b` is its test of a < b. Laws about these definitions are in proofs/Laws.antt.
 use Rattle.std.specs.Prelude.{ℕ, Bool, true, cond, ◌&&◌, List, [], ◌∷◌, ℤ, pos, neg_ℤ, ◌==◌, int_lt, nat_lt}
 use Rattle.word.specs.Word.{difference}
 use Rattle.word.specs.Signed.{half, signed}
