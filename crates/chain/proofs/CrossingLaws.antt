@@ -9,19 +9,17 @@ use native.Mathlib.Omega.{arith}
 use borrow.Author.Tests.{ltb-true, ltb-false, lt-ltb, le-ltb, le-leb, lt-leb}
 use lib.Dec.{T, ltb, le→leb}
 use lib.IntN.{ℤ, pos, negsuc, ◌+ℤ◌, ◌-ℤ◌, ◌*ℤ◌}
-use lib.ListN.{length, get_or, take, length-map}
+use lib.ListN.{length, get_or, take}
 use lib.Pow.{pow_pos}
 use lib.Signed.{le_z, lt_z, ◌≤ℤ◌, ◌<ℤ◌, le_z_yes, lt_z_yes, clash_ℤ}
 use Rattle.word.specs.Signed.{half, signed}
 use Rattle.word.proofs.SignedWords.{below_minus, signed_low, signed_high}
 use Rattle.word.proofs.WholeNumbers.{passed, failed}
-use Rattle.chain.specs.Chain.{value, rest, words, trimmed, row, shift}
+use Rattle.chain.specs.Chain.{value, rest, words, trimmed, row}
 use Rattle.chain.specs.SumChain.{sum_shift}
 use Rattle.chain.specs.Answer.{ChainAnswer, answered, chain, given, with_crossing, shift_answer}
-use Rattle.chain.specs.Crossing.{signed_step, crossed_by, crossing}
-use Rattle.chain.proofs.Trimming.{row-trimmed, length-row}
-use Rattle.chain.proofs.Rows.{row-whole}
-use Rattle.chain.proofs.Shifting.{length_shift}
+use Rattle.chain.specs.Crossing.{crossed_by, crossing}
+use Rattle.chain.proofs.Trimming.{row-trimmed}
 use Rattle.chain.proofs.Calls.{shift_trims}
 
 -- A number that is 2^w or more is not below 0.

@@ -1,5 +1,5 @@
 -- `combined` works out the kept words and trims.
-use Rattle.std.proofs.Common.{arith, le-ltb, lt-ltb}
+use Rattle.std.proofs.Common.{le-ltb, lt-ltb}
 use Rattle.std.proofs.lemmas.Result.{err_from_is_err_and}
 use Rattle.chain_calls.proofs.combined.Goals as goal
 

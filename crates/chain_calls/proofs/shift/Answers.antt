@@ -1,5 +1,5 @@
 -- `shift` answers the trimmed shift of the trimmed input, and how its first element crossed.
-use Rattle.std.proofs.Common.{◌∙◌, get_or, arith, w64, Fits, lt-ltb, rules}
+use Rattle.std.proofs.Common.{◌∙◌, get_or, w64, Fits, lt-ltb, rules}
 use mir.ValLaws.{to_z-of_z}
 use Rattle.std.proofs.lemmas.Result.{err_from_is_err_and}
 use Rattle.chain.proofs.CrossingLaws.{shift-done}

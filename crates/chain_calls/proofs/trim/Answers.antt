@@ -1,5 +1,5 @@
 -- `trim` answers the trimmed chain of the words up to the given length.
-use Rattle.std.proofs.Common.{arith, le-ltb, lt-ltb, rules}
+use Rattle.std.proofs.Common.{le-ltb, lt-ltb, rules}
 use Rattle.std.proofs.lemmas.Result.{err_from_is_err_and}
 use Rattle.chain.proofs.Calls.{kept-trimmed}
 use Rattle.chain_calls.proofs.trim.Goals as goal
