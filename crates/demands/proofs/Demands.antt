@@ -81,8 +81,7 @@ use Rattle.reason.proofs.OneReason as OneReason
 use Rattle.reason.proofs.TreeLaws as RowTrees
 use Rattle.reason.proofs.SoundRows as SoundRows
 use Rattle.reason.proofs.Answers as Reasons
-use Rattle.probe.specs.declared.ProbeAnswer.{ProbeAnswer}
-use Rattle.probe.specs.declared.Verdict.TheVariants.{NoVerdict}
+use Rattle.probe.specs.Answer.{ProbeAnswer, NoVerdict}
 use Rattle.probe.specs.Probe as ProbeSpec
 use Rattle.probe.specs.Probe.{offset, verdict, verdict_word, ahead, behind, within, unset, probe_answer}
 use Rattle.probe.proofs.Laws as Probe
