@@ -73,7 +73,7 @@ use Rattle.fold.specs.declared.CompileAnswer.{CompileAnswer}
 use Rattle.fold.specs.Compiling.{Compiling, too_short, refused, accepted}
 use Rattle.fold.proofs.Promise as Promise
 use Rattle.fold.proofs.Promise.{compiling_unique}
-use Rattle.reason.specs.declared.ReasonAnswer.{ReasonAnswer}
+use Rattle.reason.specs.Answer.{ReasonAnswer}
 use Rattle.reason.specs.RowTrees.{operand_spans, operator_over, row_tree}
 use Rattle.reason.specs.Reasons.{Stays, Folds, Named, Reason, would_fold}
 use Rattle.reason.specs.Explaining.{refusing, explaining, Explaining, not-counted, no_operator}

@@ -25,12 +25,11 @@ impl From<Reason> for u64 {
     }
 }
 
-// The refusal's number and place, 0 and 0 if accepted; the reason, 0 if there is none; and the row's first and end byte.
-#[derive(Clone, Copy)]
-pub struct ReasonAnswer {
-    pub number: u64,
-    pub place: u64,
-    pub reason: u64,
+// Why a row is still there, if it is of kinds 3 to 8, and the first and the end byte of the text that it came from. Of a row that its plan doesn't
+// count there is nothing: no reason, and 0 and 0.
+#[derive(Clone, Copy, Debug, PartialEq, Eq)]
+pub struct Explained {
+    pub reason: Option<Reason>,
     pub first: u64,
     pub end: u64,
 }

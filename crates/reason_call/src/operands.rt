@@ -33,15 +33,8 @@ fn chain(kind: u64, length: usize, first: u64) -> Seen
     ensures value { result ≡ chain_seen kind length first }
     ensures length_in_bounds { result.length ≤ length }
 {
-    if length == 0 {
-        return Seen {
-            kind: CONSTANT,
-            length: 0,
-            first,
-        };
-    }
     Seen {
-        kind,
+        kind: if length == 0 { CONSTANT } else { kind },
         length,
         first,
     }
