@@ -1,5 +1,5 @@
 -- Writes one behind the other: two are one write of both texts, and what stands in front of the next place.
-use mathlib.Core.Path.{◌≡◌, sym, ap, ap₂, ◌∙◌, subst}
+use mathlib.Core.Path.{◌≡◌, refl, sym, ap, ap₂, ◌∙◌, subst}
 use mathlib.Core.List.{List, [], ◌++◌, append_assoc}
 use Prim.Native.Nat.{ℕ, ◌+◌, ◌≤◌}
 use native.Mathlib.Nat.{add-zero, zero-add}
@@ -54,6 +54,9 @@ joined {l} {s} {t} {m} {n} {at} {r} {q} h w v = record {
     both = omega (arith, length-append s t)
 
 -- ---- a writer
+pub none_written : (w : Writer) → Writes w [] w
+none_written w = record { same_buffer = refl; same_length = refl; wrote = wrote_nothing w.out.now w.at }
+
 pub written_as : {w v : Writer} {s t : List ℕ} → s ≡ t → Writes w s v → Writes w t v
 written_as e h = record { same_buffer = h.same_buffer; same_length = h.same_length; wrote = wrote_same e h.wrote }
 
