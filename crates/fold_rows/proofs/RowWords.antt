@@ -1,19 +1,16 @@
--- The words of a row, read and written one after the other, and words put into a plan.
-use mathlib.Core.Path.{◌≡◌, sym, ap, ap₂, ◌∙◌}
+-- How many elements a row has, and words put into a plan.
+use mathlib.Core.Path.{◌≡◌, ap, ap₂, ◌∙◌}
 use mathlib.Core.List.{List, ◌++◌}
-use Prim.Native.Nat.{ℕ, ◌+◌, ◌-◌, ◌<◌}
+use Prim.Native.Nat.{ℕ, ◌+◌, ◌-◌}
 use native.Mathlib.Omega.{arith}
-use lib.ListN.{length, get_or, take, drop, length-drop}
-use lib.Seq.{length-take-le, get_or-take, get_or-drop, drop-drop}
+use lib.ListN.{length, take, drop, length-drop}
+use lib.Seq.{length-take-le, drop-drop}
 use Rattle.plan.specs.Measures.{elements_start, element_count, row_length}
 use Rattle.plan.specs.Row.{Row, elements}
 use Rattle.plan.proofs.RowLaws.{part_put}
 use Rattle.fold_rows.specs.Standing.{with_words}
 
 -- ---- elements
-pub element_at : (row : Row) (j : ℕ) → j < element_count → get_or row (elements_start + j) 0 ≡ get_or (elements row) j 0
-element_at row j h = sym (get_or-take element_count (drop elements_start row) j 0 h ∙ get_or-drop elements_start row j 0)
-
 pub length-elements : (row : Row) → length row ≡ row_length → length (elements row) ≡ element_count
 length-elements row long = length-take-le element_count (drop elements_start row) (omega (arith, length-drop elements_start row))
 

@@ -12,7 +12,7 @@ ghost use Rattle.plan.specs.Plan.{row};
 ghost use Rattle.formula.specs.Tree.{span};
 ghost use Rattle.fold_rows.specs.Standing.{with_row, with_span};
 
-use plan::{ELEMENT_COUNT, ELEMENTS_START, SPAN_START};
+use plan::{ELEMENTS_START, SPAN_START};
 use plan_rows::kinds::CONSTANT;
 use plan_rows::row;
 
@@ -24,11 +24,7 @@ pub fn elements(plan: &[u64], r: usize) -> [u64; 17]
 {
     let words = row(plan, r);
     let mut e = chain_arrays::zeros();
-    let mut j = 0;
-    while j < ELEMENT_COUNT {
-        e[j] = words[ELEMENTS_START + j];
-        j += 1;
-    }
+    e.copy_from_slice(&words[ELEMENTS_START..SPAN_START]);
     e
 }
 
@@ -40,10 +36,7 @@ fn write_row(row: &mut [u64], kind: u64, a: u64, b: u64, elements: [u64; 17])
     row[0] = kind;
     row[1] = a;
     row[2] = b;
-    chain_arrays::lay(
-        elements,
-        &mut row[ELEMENTS_START..ELEMENTS_START + ELEMENT_COUNT],
-    );
+    row[ELEMENTS_START..SPAN_START].copy_from_slice(&elements);
 }
 
 // The span of row r: first byte and end byte of the text that it came from.
@@ -68,22 +61,12 @@ pub fn write(plan: &mut [u64], r: usize, kind: u64, a: u64, b: u64, elements: [u
     put_span(plan, r, 0, 0);
 }
 
-// A chain of length 0 is a constant.
-fn kind_of(chain: u64, last: usize) -> u64
-    ensures { result ≡ cond (eqb last 0) 0 chain }
-{
-    if last == 0 {
-        return CONSTANT;
-    }
-    chain
-}
-
-// The row of a chain of the given kind with the elements 0 to last, or of a constant.
+// The row of a chain of the given kind with the elements 0 to last; a chain of length 0 is a constant.
 pub fn put_chain(plan: &mut [u64], r: usize, chain: u64, last: usize, elements: [u64; 17])
     requires plan_length_in_bounds { plan_length ≤ length plan.old }
     requires r_lt_most_rows { r < most_rows }
     ensures { plan.new ≡ with_row plan.old r (cond (eqb last 0) 0 chain ∷ last ∷ 0 ∷ elements ++ 0 ∷ 0 ∷ []) }
 {
-    let kind = kind_of(chain, last);
+    let kind = if last == 0 { CONSTANT } else { chain };
     write(plan, r, kind, last as u64, 0, elements);
 }

@@ -10,24 +10,11 @@ use plan::SPAN_START;
 use plan_rows::kinds::operand_count;
 use plan_rows::word;
 
-// One less, or 0.
-fn before(word: u64) -> u64
-    ensures { result ≡ word - 1 }
-{
-    if word == 0 {
-        return 0;
-    }
-    word - 1
-}
-
 // A word of a row that is moved down: one less if it names a row.
 fn lowered(word: u64, named: bool) -> u64
     ensures { result ≡ cond named (word - 1) word }
 {
-    if named {
-        return before(word);
-    }
-    word
+    if named { word.saturating_sub(1) } else { word }
 }
 
 fn move_row(plan: &mut [u64], r: usize)
@@ -56,9 +43,7 @@ pub fn move_down(plan: &mut [u64], first: usize, end: usize)
     requires end_le_most_rows { end ≤ most_rows }
     ensures { plan.new ≡ moved_down first (end - first) plan.old }
 {
-    let mut r = first;
-    while r < end {
+    for r in first..end {
         move_row(plan, r);
-        r += 1;
     }
 }

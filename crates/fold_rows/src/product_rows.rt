@@ -12,13 +12,9 @@ pub fn with_ones(elements: [u64; 17], last: usize) -> [u64; 17]
     requires { last ≤ 16 }
     ensures { result ≡ filled_with_ones 17 (take (last + 1) elements) }
 {
-    let mut r = elements;
-    let mut j = last;
-    while j < 16 {
-        j += 1;
-        r[j] = 1;
-    }
-    r
+    let mut filled = elements;
+    filled[last + 1..].fill(1);
+    filled
 }
 
 // The row of a product chain of 17 elements, trimmed; with a first element 0 it is the constant 0.
