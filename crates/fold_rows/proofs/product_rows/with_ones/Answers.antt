@@ -1,5 +1,4 @@
 -- `with_ones` writes 1 past the length.
-use native.Mathlib.Omega.{arith}
 use borrow.Author.Rules.{rules}
 use Rattle.fold_rows.proofs.Ones.{ones_put}
 use Rattle.fold_rows.proofs.product_rows.with_ones.Goals as goal
