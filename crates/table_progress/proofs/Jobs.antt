@@ -16,7 +16,7 @@ use Rattle.formula_scan.proofs.Verdicts.{refused-verdict, accepted-verdict}
 use Rattle.plan.specs.Plan.{row_count, refusal}
 use Rattle.plan.specs.Filling.{point_values}
 use Rattle.plan.proofs.RowLaws.{part, part_put}
-use Rattle.fold.specs.declared.CompileAnswer.{CompileAnswer}
+use Rattle.fold.specs.Answer.{CompileAnswer}
 use Rattle.fold.proofs.Compiled.{compiled_within}
 use Rattle.fold.specs.Compiling.{Compiling, too_short, refused, accepted}
 use Rattle.table_fields.specs.Writing.{Wrote}

@@ -16,7 +16,7 @@ put_span-requires c = let args = c.args in
     let pre = c.requires in
     let (t, words, comp, work) = pre.at_place in
     let grown = c.fold_node-behind.ensures t words _ _ comp work in
-    let rows = root_row args.grid.start args.grid.step args.plan.now args.end (omega arith) grown in record { r_lt_most_rows = omega (arith, rows.0, rows.1, grown.few) }
+    let rows = root_row args.grid.start args.grid.step args.plan.now args.end (omega arith) grown in omega (arith, rows.0, rows.1, grown.few)
 
 pub returns : goal.returns
 returns c =
