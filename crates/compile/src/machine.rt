@@ -13,7 +13,7 @@ ghost use Rattle.fold.specs.Layout.{plan_words};
 use fold_sums::{Additive, fold_sum};
 use formula::{NUMBER, VARIABLE};
 use formula_read::SPANNED_TREE_WORDS;
-use plan::PLAN_WORDS;
+use plan::{PLAN_WORDS, PlanWords};
 use plan_rows::kinds::{DIFFERENCE, LITERAL_POWER, MINUS, PRODUCT, PRODUCT_CHAIN, SUM, SUM_CHAIN};
 use plan_rows::word;
 
@@ -33,7 +33,7 @@ pub struct Grid {
 }
 
 // The chain of two elements, trimmed, in row r: a number and 0, or x.
-fn put_pair(plan: &mut [u64; PLAN_WORDS], r: usize, first: u64, second: u64)
+fn put_pair(plan: &mut PlanWords, r: usize, first: u64, second: u64)
     requires { r < most_rows }
     ensures { plan.new ≡ placed plan.old r no_span (trimmed_sum (first ∷ second ∷ [])) }
 {
@@ -46,13 +46,7 @@ fn put_pair(plan: &mut [u64; PLAN_WORDS], r: usize, first: u64, second: u64)
 }
 
 // The operator of two operands: + - * or a raise.
-fn fold_both(
-    plan: &mut [u64; PLAN_WORDS],
-    kind: u64,
-    left: usize,
-    middle: usize,
-    end: usize,
-) -> usize
+fn fold_both(plan: &mut PlanWords, kind: u64, left: usize, middle: usize, end: usize) -> usize
     requires end_lt_most_rows { end < most_rows }
     requires two { Two plan.old left middle end }
     ensures { FoldsBoth (fold_both kind) plan.old left middle end result plan.new }
@@ -66,7 +60,7 @@ fn fold_both(
 }
 
 // The first row of the operand that ends before row `end`: from its root down the left operands.
-fn first_row(plan: &[u64; PLAN_WORDS], end: usize) -> usize
+fn first_row(plan: &PlanWords, end: usize) -> usize
     requires end_le_most_rows { end ≤ most_rows }
     requires ends { Ends plan.now end }
     ensures { FirstRow plan.now end result }
@@ -80,7 +74,7 @@ fn first_row(plan: &[u64; PLAN_WORDS], end: usize) -> usize
 }
 
 // One node: a number, x, or an operator on the operands that were finished last, its span left out. Answers the row behind the last operand.
-fn fold_node(plan: &mut [u64; PLAN_WORDS], end: usize, kind: u64, word: u64, grid: Grid) -> usize
+fn fold_node(plan: &mut PlanWords, end: usize, kind: u64, word: u64, grid: Grid) -> usize
     requires { AtNode grid.start grid.step plan.old end kind word }
     ensures { FoldsNode grid.start grid.step plan.old end kind word plan.new result }
 {
@@ -104,7 +98,7 @@ fn fold_node(plan: &mut [u64; PLAN_WORDS], end: usize, kind: u64, word: u64, gri
 }
 
 // The node whose four words stand from `at` on: its root row, also that of an operand which it passes through, gets its whole span.
-fn fold_place(plan: &mut [u64; PLAN_WORDS], at: usize, end: usize, grid: Grid) -> usize
+fn fold_place(plan: &mut PlanWords, at: usize, end: usize, grid: Grid) -> usize
     requires at_bound { at + 3 < plan_length }
     requires at_place { AtPlace grid.start grid.step plan.old end at }
     ensures { FoldsPlace grid.start grid.step plan.old end at plan.new result }
@@ -120,7 +114,7 @@ fn fold_place(plan: &mut [u64; PLAN_WORDS], at: usize, end: usize, grid: Grid) -
 }
 
 // All nodes of the tree whose words stand at the end of the plan. Answers the row behind the folded tree.
-fn fold_nodes(plan: &mut [u64; PLAN_WORDS], grid: Grid) -> usize
+fn fold_nodes(plan: &mut PlanWords, grid: Grid) -> usize
     requires { (t : Tree) × Compilable grid.start grid.step t × Written plan.old t }
     ensures { (t : Tree) → Compilable grid.start grid.step t → Written plan.old t → FoldedAt grid.start grid.step plan.old t plan.new result }
 {
@@ -133,7 +127,7 @@ fn fold_nodes(plan: &mut [u64; PLAN_WORDS], grid: Grid) -> usize
 }
 
 // The plan of the folded tree, in all of the plan's own words.
-pub fn fold_tree(plan: &mut [u64; PLAN_WORDS], grid: Grid)
+pub fn fold_tree(plan: &mut PlanWords, grid: Grid)
     requires { (t : Tree) × Compilable grid.start grid.step t × Written plan.old t }
     ensures { (t : Tree) → Compilable grid.start grid.step t → Written plan.old t
         → plan.new ≡ plan_words (span_of t) (fold 64 grid.start grid.step t) }

@@ -11,11 +11,11 @@ ghost use Rattle.fold_operands.specs.OperandRows.{is_constant_row, is_sum_row, i
 use chain_arrays::LONGEST;
 use fold_operands::{is_constant, is_sum, kind, length_of};
 use fold_rows::product_rows;
-use plan::PLAN_WORDS;
+use plan::PlanWords;
 use plan_rows::kinds::{CONSTANT, PRODUCT_CHAIN};
 
 // The product chain in row r, or a constant as its element 0, filled with ones.
-pub fn filled(plan: &[u64; PLAN_WORDS], r: usize) -> [u64; 17]
+pub fn filled(plan: &PlanWords, r: usize) -> [u64; 17]
     requires r_lt_most_rows { r < most_rows }
     requires r_bound { word_a (row plan.now r) ≤ 16 }
     ensures { result ≡ product_in (row plan.now r) }
@@ -25,7 +25,7 @@ pub fn filled(plan: &[u64; PLAN_WORDS], r: usize) -> [u64; 17]
 }
 
 // One of the rows a and b is the constant 0.
-pub fn has_zero(plan: &[u64; PLAN_WORDS], a: usize, b: usize) -> bool
+pub fn has_zero(plan: &PlanWords, a: usize, b: usize) -> bool
     requires a_lt_most_rows { a < most_rows }
     requires b_lt_most_rows { b < most_rows }
     ensures { result ≡ (is_constant_row 0 (row plan.now a) || is_constant_row 0 (row plan.now b)) }
@@ -34,7 +34,7 @@ pub fn has_zero(plan: &[u64; PLAN_WORDS], a: usize, b: usize) -> bool
 }
 
 // Rows a and b are constants or sum chains, with lengths that add to 16 at most.
-pub fn are_sums(plan: &[u64; PLAN_WORDS], a: usize, b: usize) -> bool
+pub fn are_sums(plan: &PlanWords, a: usize, b: usize) -> bool
     requires a_lt_most_rows { a < most_rows }
     requires b_lt_most_rows { b < most_rows }
     ensures { result ≡ (is_sum_row (row plan.now a) && (is_sum_row (row plan.now b) && leb (word_a (row plan.now a) + word_a (row plan.now b)) 16)) }
@@ -45,7 +45,7 @@ pub fn are_sums(plan: &[u64; PLAN_WORDS], a: usize, b: usize) -> bool
 }
 
 // Row r is a constant or a product chain.
-fn is_product(plan: &[u64; PLAN_WORDS], r: usize) -> bool
+fn is_product(plan: &PlanWords, r: usize) -> bool
     requires { r < most_rows }
     ensures { result ≡ is_product_row (row plan.now r) }
 {
@@ -54,7 +54,7 @@ fn is_product(plan: &[u64; PLAN_WORDS], r: usize) -> bool
 }
 
 // Rows a and b are constants or product chains.
-pub fn are_products(plan: &[u64; PLAN_WORDS], a: usize, b: usize) -> bool
+pub fn are_products(plan: &PlanWords, a: usize, b: usize) -> bool
     requires a_lt_most_rows { a < most_rows }
     requires b_lt_most_rows { b < most_rows }
     ensures { result ≡ (is_product_row (row plan.now a) && is_product_row (row plan.now b)) }

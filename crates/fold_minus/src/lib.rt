@@ -9,11 +9,11 @@ ghost use Rattle.fold_operands.specs.Operands.{One, Folds};
 
 use fold_operands::{append, kind, length_of, put_sum};
 use fold_rows::product_rows;
-use plan::PLAN_WORDS;
+use plan::PlanWords;
 use plan_rows::kinds::{MINUS, PRODUCT_CHAIN};
 
 // Minus the operand from row first up to row end: "minus S: every element; minus P: f0 only."
-pub fn fold_minus(plan: &mut [u64; PLAN_WORDS], first: usize, end: usize) -> usize
+pub fn fold_minus(plan: &mut PlanWords, first: usize, end: usize) -> usize
     requires end_lt_most_rows { end < most_rows }
     requires one { One plan.old first end }
     ensures { Folds (fold_minus 64) plan.old first end result plan.new }

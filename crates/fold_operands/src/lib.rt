@@ -12,12 +12,12 @@ ghost use Rattle.fold_operands.specs.OperandRows.{is_constant_row, is_sum_row};
 ghost use Rattle.fold_rows.specs.Standing.{with_row, placed, no_span};
 
 use chain::ChainAnswer;
-use plan::{ELEMENTS_START, PLAN_WORDS};
+use plan::{ELEMENTS_START, PlanWords};
 use plan_rows::kinds::{CONSTANT, SUM_CHAIN};
 use plan_rows::word;
 
 // The kind of row r.
-pub fn kind(plan: &[u64; PLAN_WORDS], r: usize) -> u64
+pub fn kind(plan: &PlanWords, r: usize) -> u64
     requires { r < most_rows }
     ensures { result ≡ kind (row plan.now r) }
 {
@@ -25,7 +25,7 @@ pub fn kind(plan: &[u64; PLAN_WORDS], r: usize) -> u64
 }
 
 // The length of the chain in row r; a constant has length 0.
-pub fn length_of(plan: &[u64; PLAN_WORDS], r: usize) -> usize
+pub fn length_of(plan: &PlanWords, r: usize) -> usize
     requires { r < most_rows }
     ensures { result ≡ word_a (row plan.now r) }
 {
@@ -33,7 +33,7 @@ pub fn length_of(plan: &[u64; PLAN_WORDS], r: usize) -> usize
 }
 
 // Element 0 of row r.
-pub fn first_element(plan: &[u64; PLAN_WORDS], r: usize) -> u64
+pub fn first_element(plan: &PlanWords, r: usize) -> u64
     requires { r < most_rows }
     ensures { result ≡ first_element (row plan.now r) }
 {
@@ -41,7 +41,7 @@ pub fn first_element(plan: &[u64; PLAN_WORDS], r: usize) -> u64
 }
 
 // Row r is the constant n.
-pub fn is_constant(plan: &[u64; PLAN_WORDS], r: usize, n: u64) -> bool
+pub fn is_constant(plan: &PlanWords, r: usize, n: u64) -> bool
     requires { r < most_rows }
     ensures { result ≡ is_constant_row n (row plan.now r) }
 {
@@ -49,7 +49,7 @@ pub fn is_constant(plan: &[u64; PLAN_WORDS], r: usize, n: u64) -> bool
 }
 
 // Row r is a constant or a sum chain.
-pub fn is_sum(plan: &[u64; PLAN_WORDS], r: usize) -> bool
+pub fn is_sum(plan: &PlanWords, r: usize) -> bool
     requires { r < most_rows }
     ensures { result ≡ is_sum_row (row plan.now r) }
 {
@@ -57,7 +57,7 @@ pub fn is_sum(plan: &[u64; PLAN_WORDS], r: usize) -> bool
 }
 
 // An operator's row behind its operands.
-pub fn append(plan: &mut [u64; PLAN_WORDS], end: usize, kind: u64, a: u64, b: u64)
+pub fn append(plan: &mut PlanWords, end: usize, kind: u64, a: u64, b: u64)
     requires { end < most_rows }
     ensures { plan.new ≡ with_row plan.old end (row_words kind a b [] no_span) }
 {
@@ -65,7 +65,7 @@ pub fn append(plan: &mut [u64; PLAN_WORDS], end: usize, kind: u64, a: u64, b: u6
 }
 
 // The row of a trimmed sum chain.
-pub fn put_sum(plan: &mut [u64; PLAN_WORDS], r: usize, f: ChainAnswer)
+pub fn put_sum(plan: &mut PlanWords, r: usize, f: ChainAnswer)
     requires { r < most_rows }
     ensures { plan.new ≡ with_row plan.old r (cond (eqb f.length 0) 0 1 ∷ f.length ∷ 0 ∷ f.elements ++ 0 ∷ 0 ∷ []) }
 {
@@ -74,7 +74,7 @@ pub fn put_sum(plan: &mut [u64; PLAN_WORDS], r: usize, f: ChainAnswer)
 }
 
 // The row of the constant c.
-pub fn put_constant(plan: &mut [u64; PLAN_WORDS], r: usize, c: u64)
+pub fn put_constant(plan: &mut PlanWords, r: usize, c: u64)
     requires { r < most_rows }
     ensures { plan.new ≡ placed plan.old r no_span (constant c) }
 {

@@ -16,7 +16,7 @@ use chain::ChainAnswer;
 use chain_arrays::{LONGEST, Operation, accepted, word_by_word};
 use fold_operands::{append, first_element, kind, length_of, put_constant, put_sum};
 use fold_rows::product_rows;
-use plan::PLAN_WORDS;
+use plan::PlanWords;
 use plan_rows::kinds::{CONSTANT, LITERAL_POWER, PRODUCT_CHAIN, SUM_CHAIN};
 
 // The chain f of length k to the n, trimmed.
@@ -30,7 +30,7 @@ fn power_of(f: [u64; 17], k: usize, n: u64) -> ChainAnswer
 }
 
 // Chains and operators to the n: S^n if k*n is at most 16, every element of P, or a row.
-fn fold_high_power(plan: &mut [u64; PLAN_WORDS], first: usize, end: usize, n: u64) -> usize
+fn fold_high_power(plan: &mut PlanWords, first: usize, end: usize, n: u64) -> usize
     requires end_lt_most_rows { end < most_rows }
     requires le_n { 2 ≤ n }
     requires n_bound { n ≤ 64 }
@@ -56,7 +56,7 @@ fn fold_high_power(plan: &mut [u64; PLAN_WORDS], first: usize, end: usize, n: u6
 }
 
 // The operand from row first up to row end, to the n: "A^0 is 1, A^1 is A".
-pub fn fold_power(plan: &mut [u64; PLAN_WORDS], first: usize, end: usize, n: u64) -> usize
+pub fn fold_power(plan: &mut PlanWords, first: usize, end: usize, n: u64) -> usize
     requires end_lt_most_rows { end < most_rows }
     requires n_bound { n ≤ 64 }
     requires one { One plan.old first end }

@@ -19,11 +19,11 @@ use chain_arrays::Operation;
 use fold_factors::{are_products, are_sums, filled, has_zero};
 use fold_operands::{append, is_constant, length_of, put_constant, put_sum};
 use fold_rows::{moved_rows, product_rows};
-use plan::PLAN_WORDS;
+use plan::PlanWords;
 use plan_rows::kinds::PRODUCT;
 
 // The product of the sum chains in rows a and b by document 000's rule, in row r.
-fn put_product_of_sums(plan: &mut [u64; PLAN_WORDS], r: usize, a: usize, b: usize)
+fn put_product_of_sums(plan: &mut PlanWords, r: usize, a: usize, b: usize)
     requires r_lt_most_rows { r < most_rows }
     requires a_lt_most_rows { a < most_rows }
     requires b_lt_most_rows { b < most_rows }
@@ -40,7 +40,7 @@ fn put_product_of_sums(plan: &mut [u64; PLAN_WORDS], r: usize, a: usize, b: usiz
 }
 
 // The product of the product chains in rows a and b, in row r.
-fn put_product_of_products(plan: &mut [u64; PLAN_WORDS], r: usize, a: usize, b: usize)
+fn put_product_of_products(plan: &mut PlanWords, r: usize, a: usize, b: usize)
     requires r_lt_most_rows { r < most_rows }
     requires a_lt_most_rows { a < most_rows }
     requires b_lt_most_rows { b < most_rows }
@@ -60,7 +60,7 @@ fn put_product_of_products(plan: &mut [u64; PLAN_WORDS], r: usize, a: usize, b: 
 }
 
 // Constants 1 and 0 first, then sum chains, then product chains; anything else stays a row.
-pub fn fold_product(plan: &mut [u64; PLAN_WORDS], left: usize, middle: usize, end: usize) -> usize
+pub fn fold_product(plan: &mut PlanWords, left: usize, middle: usize, end: usize) -> usize
     requires end_lt_most_rows { end < most_rows }
     requires two { Two plan.old left middle end }
     ensures { FoldsBoth (fold_product 64) plan.old left middle end result plan.new }

@@ -12,12 +12,12 @@ ghost use Rattle.plan.specs.Plan.{row};
 ghost use Rattle.formula.specs.Tree.{span};
 ghost use Rattle.fold_rows.specs.Standing.{with_row, with_span};
 
-use plan::{ELEMENTS_START, PLAN_WORDS, ROW_WORDS, SPAN_START};
+use plan::{ELEMENTS_START, PlanWords, ROW_WORDS, SPAN_START};
 use plan_rows::kinds::CONSTANT;
 use plan_rows::row;
 
 // The 17 element words of row r.
-pub fn elements(plan: &[u64; PLAN_WORDS], r: usize) -> [u64; 17]
+pub fn elements(plan: &PlanWords, r: usize) -> [u64; 17]
     requires { r < most_rows }
     ensures { result ≡ elements (row plan.now r) }
 {
@@ -41,7 +41,7 @@ fn write_row(row: &mut [u64], kind: u64, a: u64, b: u64, elements: [u64; 17])
 }
 
 // The span of row r: first byte and end byte of the text that it came from.
-pub fn put_span(plan: &mut [u64; PLAN_WORDS], r: usize, first: u64, end: u64)
+pub fn put_span(plan: &mut PlanWords, r: usize, first: u64, end: u64)
     requires { r < most_rows }
     ensures { plan.new ≡ with_row plan.old r (with_span (row plan.old r) (span first end)) }
 {
@@ -61,13 +61,7 @@ pub fn write(plan: &mut [u64], r: usize, kind: u64, a: u64, b: u64, elements: [u
 }
 
 // The row of a chain of the given kind with the elements 0 to last; a chain of length 0 is a constant.
-pub fn put_chain(
-    plan: &mut [u64; PLAN_WORDS],
-    r: usize,
-    chain: u64,
-    last: usize,
-    elements: [u64; 17],
-)
+pub fn put_chain(plan: &mut PlanWords, r: usize, chain: u64, last: usize, elements: [u64; 17])
     requires { r < most_rows }
     ensures { plan.new ≡ with_row plan.old r (cond (eqb last 0) 0 chain ∷ last ∷ 0 ∷ elements ++ 0 ∷ 0 ∷ []) }
 {

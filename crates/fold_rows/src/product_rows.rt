@@ -5,7 +5,7 @@ ghost use Rattle.plan.specs.Measures.{plan_length, most_rows};
 ghost use Rattle.fold.specs.Folded.{trimmed_product};
 ghost use Rattle.fold_rows.specs.Standing.{filled_with_ones, placed, no_span};
 
-use plan::PLAN_WORDS;
+use plan::PlanWords;
 use plan_rows::kinds::PRODUCT_CHAIN;
 
 // The elements up to the given length, and 1 past it.
@@ -19,7 +19,7 @@ pub fn with_ones(elements: [u64; 17], last: usize) -> [u64; 17]
 }
 
 // The row of a product chain of 17 elements, trimmed; with a first element 0 it is the constant 0.
-pub fn put_product(plan: &mut [u64; PLAN_WORDS], r: usize, elements: [u64; 17])
+pub fn put_product(plan: &mut PlanWords, r: usize, elements: [u64; 17])
     requires { r < most_rows }
     ensures { plan.new ≡ placed plan.old r no_span (trimmed_product elements) }
 {

@@ -15,7 +15,7 @@ use chain::ChainAnswer;
 use fold_minus::fold_minus;
 use fold_operands::{append, is_constant, is_sum, length_of, put_sum};
 use fold_rows::moved_rows;
-use plan::PLAN_WORDS;
+use plan::PlanWords;
 use plan_rows::kinds::{DIFFERENCE, SUM};
 
 // The operators of this crate.
@@ -38,7 +38,7 @@ impl From<Additive> for u64 {
 }
 
 // Both rows are constants or sum chains.
-fn both_sums(plan: &[u64; PLAN_WORDS], a: usize, b: usize) -> bool
+fn both_sums(plan: &PlanWords, a: usize, b: usize) -> bool
     requires a_lt_most_rows { a < most_rows }
     requires b_lt_most_rows { b < most_rows }
     ensures { result ≡ (is_sum_row (row plan.now a) && is_sum_row (row plan.now b)) }
@@ -47,7 +47,7 @@ fn both_sums(plan: &[u64; PLAN_WORDS], a: usize, b: usize) -> bool
 }
 
 // The chains of two rows, a constant standing as f0: "element by element", "and the same under -".
-fn chain_of_both(plan: &[u64; PLAN_WORDS], operator: Additive, a: usize, b: usize) -> ChainAnswer
+fn chain_of_both(plan: &PlanWords, operator: Additive, a: usize, b: usize) -> ChainAnswer
     requires a_lt_most_rows { a < most_rows }
     requires b_lt_most_rows { b < most_rows }
     ensures { result ≡ answered (both_outcome 64 (row_kind operator) (elements (row plan.now a)) (word_a (row plan.now a))
@@ -64,7 +64,7 @@ fn chain_of_both(plan: &[u64; PLAN_WORDS], operator: Additive, a: usize, b: usiz
 }
 
 // The operand alone, behind the constant 0: "0+A: A", "0-A: as minus A".
-fn fold_alone(plan: &mut [u64; PLAN_WORDS], operator: Additive, first: usize, end: usize) -> usize
+fn fold_alone(plan: &mut PlanWords, operator: Additive, first: usize, end: usize) -> usize
     requires end_lt_most_rows { end < most_rows }
     requires one { One plan.old first end }
     ensures { Folds (fold_alone 64 (row_kind operator)) plan.old first end result plan.new }
@@ -78,7 +78,7 @@ fn fold_alone(plan: &mut [u64; PLAN_WORDS], operator: Additive, first: usize, en
 // The operand before row middle plus the one behind it, or less it: "C+S, S+C, S+S, and the same under -: element by
 // element", "A+0, 0+A, A-0: A", "0-A: as minus A".
 pub fn fold_sum(
-    plan: &mut [u64; PLAN_WORDS],
+    plan: &mut PlanWords,
     operator: Additive,
     left: usize,
     middle: usize,
