@@ -10,6 +10,7 @@ ghost use Rattle.formula.specs.Tree.{Tree, span_of};
 ghost use Rattle.fold.specs.Folding.{fold};
 ghost use Rattle.fold.specs.Layout.{plan_words};
 
+use fold_operands::Pair;
 use fold_sums::{Additive, fold_sum};
 use formula::{NUMBER, VARIABLE};
 use formula_read::SPANNED_TREE_WORDS;
@@ -46,16 +47,16 @@ fn put_pair(plan: &mut PlanWords, r: usize, first: u64, second: u64)
 }
 
 // The operator of two operands: + - * or a raise.
-fn fold_both(plan: &mut PlanWords, kind: u64, left: usize, middle: usize, end: usize) -> usize
-    requires end_lt_most_rows { end < most_rows }
-    requires two { Two plan.old left middle end }
-    ensures { FoldsBoth (fold_both kind) plan.old left middle end result plan.new }
+fn fold_both(plan: &mut PlanWords, kind: u64, pair: Pair) -> usize
+    requires end_lt_most_rows { pair.end < most_rows }
+    requires two { Two plan.old pair.left pair.middle pair.end }
+    ensures { FoldsBoth (fold_both kind) plan.old pair.left pair.middle pair.end result plan.new }
 {
     match kind {
-        SUM => fold_sum(plan, Additive::Sum, left, middle, end),
-        DIFFERENCE => fold_sum(plan, Additive::Difference, left, middle, end),
-        PRODUCT => fold_products::fold_product(plan, left, middle, end),
-        _ => fold_raises::fold_raise(plan, left, middle, end),
+        SUM => fold_sum(plan, Additive::Sum, pair),
+        DIFFERENCE => fold_sum(plan, Additive::Difference, pair),
+        PRODUCT => fold_products::fold_product(plan, pair),
+        _ => fold_raises::fold_raise(plan, pair),
     }
 }
 
@@ -94,7 +95,12 @@ fn fold_node(plan: &mut PlanWords, end: usize, kind: u64, word: u64, grid: Grid)
         return fold_powers::fold_power(plan, top, end, word);
     }
     let below = first_row(plan, top);
-    fold_both(plan, kind, below, top, end)
+    let pair = Pair {
+        left: below,
+        middle: top,
+        end,
+    };
+    fold_both(plan, kind, pair)
 }
 
 // The node whose four words stand from `at` on: its root row, also that of an operand which it passes through, gets its whole span.

@@ -16,7 +16,16 @@ use plan::{ELEMENTS_START, PlanWords};
 use plan_rows::kinds::{CONSTANT, SUM_CHAIN};
 use plan_rows::word;
 
+// Where two operands stand, one behind the other: the left one from row `left` on, the right one from row `middle` on, up to row `end`.
+#[derive(Clone, Copy)]
+pub struct Pair {
+    pub left: usize,
+    pub middle: usize,
+    pub end: usize,
+}
+
 // The kind of row r.
+// Kept: a row of a lent plan may hold any word as its kind, and the contract is of every row.
 pub fn kind(plan: &PlanWords, r: usize) -> u64
     requires { r < most_rows }
     ensures { result ≡ kind (row plan.now r) }

@@ -8,17 +8,18 @@ ghost use Rattle.fold.specs.Folding.{fold_raise};
 ghost use Rattle.fold_operands.specs.Operands.{Two, FoldsBoth};
 
 use chain_arrays::{Operation, word_by_word};
-use fold_operands::{append, first_element, kind};
+use fold_operands::{Pair, append, first_element, kind};
 use fold_rows::product_rows;
 use plan::PlanWords;
 use plan_rows::kinds::{CONSTANT, PRODUCT_CHAIN, RAISE};
 
 // The operand before row middle to the one behind it: "C by C worked out; C by S becomes a product chain with elements C^fj."
-pub fn fold_raise(plan: &mut PlanWords, left: usize, middle: usize, end: usize) -> usize
-    requires end_lt_most_rows { end < most_rows }
-    requires two { Two plan.old left middle end }
-    ensures { FoldsBoth (fold_raise 64) plan.old left middle end result plan.new }
+pub fn fold_raise(plan: &mut PlanWords, pair: Pair) -> usize
+    requires end_lt_most_rows { pair.end < most_rows }
+    requires two { Two plan.old pair.left pair.middle pair.end }
+    ensures { FoldsBoth (fold_raise 64) plan.old pair.left pair.middle pair.end result plan.new }
 {
+    let Pair { left, middle, end } = pair;
     let base_root = middle - 1;
     let exponent_root = end - 1;
     let base = kind(plan, base_root);

@@ -13,7 +13,7 @@ ghost use Rattle.fold_sums.specs.ByKind.{row_kind, fold_sum_or_difference, both_
 
 use chain::ChainAnswer;
 use fold_minus::fold_minus;
-use fold_operands::{append, is_constant, is_sum, length_of, put_sum};
+use fold_operands::{Pair, append, is_constant, is_sum, length_of, put_sum};
 use fold_rows::moved_rows;
 use plan::PlanWords;
 use plan_rows::kinds::{DIFFERENCE, SUM};
@@ -77,17 +77,12 @@ fn fold_alone(plan: &mut PlanWords, operator: Additive, first: usize, end: usize
 
 // The operand before row middle plus the one behind it, or less it: "C+S, S+C, S+S, and the same under -: element by
 // element", "A+0, 0+A, A-0: A", "0-A: as minus A".
-pub fn fold_sum(
-    plan: &mut PlanWords,
-    operator: Additive,
-    left: usize,
-    middle: usize,
-    end: usize,
-) -> usize
-    requires end_lt_most_rows { end < most_rows }
-    requires two { Two plan.old left middle end }
-    ensures { FoldsBoth (fold_sum_or_difference 64 (row_kind operator)) plan.old left middle end result plan.new }
+pub fn fold_sum(plan: &mut PlanWords, operator: Additive, pair: Pair) -> usize
+    requires end_lt_most_rows { pair.end < most_rows }
+    requires two { Two plan.old pair.left pair.middle pair.end }
+    ensures { FoldsBoth (fold_sum_or_difference 64 (row_kind operator)) plan.old pair.left pair.middle pair.end result plan.new }
 {
+    let Pair { left, middle, end } = pair;
     let left_root = middle - 1;
     let right_root = end - 1;
     if both_sums(plan, left_root, right_root) {

@@ -35,7 +35,7 @@ returns-then-has_zero c =
 pub put_product_of_sums-requires : goal.put_product_of_sums-requires
 put_product_of_sums-requires c = let roots = operands_some c.requires.two.3 in
     let args = c.args in
-    let said = sums_say args.plan.now (args.middle - 1) (args.end - 1) c.are_sums.ensures c.if-are_sums.true in record { r_lt_most_rows = omega (arith, roots); a_lt_most_rows = omega (arith, roots); b_lt_most_rows = omega (arith, roots); b_bound = said.2 }
+    let said = sums_say args.plan.now (args.pair.middle - 1) (args.pair.end - 1) c.are_sums.ensures c.if-are_sums.true in record { r_lt_most_rows = omega (arith, roots); a_lt_most_rows = omega (arith, roots); b_lt_most_rows = omega (arith, roots); b_bound = said.2 }
 
 pub returns-then-are_sums : goal.returns-then-are_sums
 returns-then-are_sums c =

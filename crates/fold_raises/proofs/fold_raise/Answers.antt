@@ -19,7 +19,7 @@ overflow_sub-exponent_root c = omega (arith, operands_some c.requires.two.3)
 pub returns-then-exponent-lt-PRODUCT_CHAIN : goal.returns-then-exponent-lt-PRODUCT_CHAIN
 returns-then-exponent-lt-PRODUCT_CHAIN c =
     let args = c.args in
-    raise-folded args.plan.now args.left args.middle args.end c.kind-base.ensures
+    raise-folded args.plan.now args.pair.left args.pair.middle args.pair.end c.kind-base.ensures
     c.kind-exponent.ensures c.if-base-eq-CONSTANT.true c.if-exponent-lt-PRODUCT_CHAIN.true
     c.first_element-c.ensures c.elements-f.ensures
     (c.word_by_word.ensures ∙ raises_by_word c.elements-f.result (search rules) _)
@@ -27,7 +27,7 @@ returns-then-exponent-lt-PRODUCT_CHAIN c =
 
 pub returns : goal.returns
 returns c =
-    raise_as_row c.args.plan.now c.args.left c.args.middle c.args.end
+    raise_as_row c.args.plan.now c.args.pair.left c.args.pair.middle c.args.pair.end
     c.kind-base.ensures c.kind-exponent.ensures
     (room_of_both c.requires.two.3 (omega arith) c.requires.end_lt_most_rows)
     (elim c.else-base-eq-CONSTANT.branch [

@@ -53,4 +53,4 @@ returns c =
     leaves-row (additive args.operator) s a b o c.both_sums.ensures c.if-both_sums.false c.is_constant.ensures
     c.if-is_constant.false (room_of_both o (omega arith) c.requires.end_lt_most_rows) c.is_constant-2.ensures c.if-is_constant-2.false
     (c.append.ensures
-    ∙ ap (λ kind. with_row args.plan.now args.end (row_words kind (args.middle - 1) (args.end - 1) [] no_span)) c.from-kind.ensures)
+    ∙ ap (λ kind. with_row args.plan.now args.pair.end (row_words kind (args.pair.middle - 1) (args.pair.end - 1) [] no_span)) c.from-kind.ensures)
