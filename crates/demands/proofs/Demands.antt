@@ -48,10 +48,7 @@ use Rattle.chain.proofs.SumLaws as SumLaws
 use Rattle.chain.proofs.ProductLaws.{value-product-words}
 use Rattle.chain.proofs.Promises as ChainPromises
 use Rattle.chain.proofs.CrossingLaws as Crossing
-use Rattle.plan.specs.declared.FillAnswer.{FillAnswer}
-use Rattle.plan.specs.declared.FillErasAnswer.{FillErasAnswer}
-use Rattle.plan.specs.declared.CostAnswer.{CostAnswer}
-use Rattle.plan.specs.declared.SoundAnswer.{SoundAnswer}
+use Rattle.plan.specs.Answers.{FillAnswer, FillErasAnswer, CostAnswer, SoundAnswer}
 use Rattle.plan.specs.Plan as Plan
 use Rattle.plan.specs.Row.{Row, kind, word_a, word_b, first_element, first_byte, end_byte}
 use Rattle.plan.specs.Points.{root_value}

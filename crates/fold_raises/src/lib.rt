@@ -7,7 +7,7 @@ ghost use Rattle.plan.specs.Measures.{most_rows};
 ghost use Rattle.fold.specs.Folding.{fold_raise};
 ghost use Rattle.fold_operands.specs.Operands.{Two, FoldsBoth};
 
-use chain_arrays::{Operation, word_by_word};
+use chain_arrays::{Power, word_by_word};
 use fold_operands::{Pair, append, first_element, kind};
 use fold_rows::product_rows;
 use plan::PlanWords;
@@ -27,7 +27,7 @@ pub fn fold_raise(plan: &mut PlanWords, pair: Pair) -> usize
     if base == CONSTANT && exponent < PRODUCT_CHAIN {
         let c = first_element(plan, base_root);
         let f = fold_rows::elements(plan, exponent_root);
-        product_rows::put_product(plan, left, word_by_word(Operation::Power, [c; 17], f));
+        product_rows::put_product(plan, left, word_by_word::<Power>([c; 17], f));
         return left + 1;
     }
     append(plan, end, RAISE, base_root as u64, exponent_root as u64);
