@@ -38,11 +38,8 @@ pub fn write_rows(out: &mut [u8], at: usize, formula: &[u8], plan: &[u64]) -> us
 {
     let count = plan[0] as usize;
     let mut reached = at;
-    let mut r = 0;
-    while r < count {
-        let next = write_row(out, reached, formula, plan, r);
-        reached = next;
-        r += 1;
+    for r in 0..count {
+        reached = write_row(out, reached, formula, plan, r);
     }
     reached
 }

@@ -40,32 +40,20 @@ pub fn start() -> Progress
 fn have_room(line: usize, defaults: usize, plan: usize, table: usize, out: usize) -> bool
     ensures { result ≡ have_room line defaults plan table out }
 {
-    if line < HELD_AT_MOST {
-        return false;
-    }
-    if defaults < LONGEST_LINE {
-        return false;
-    }
-    if plan < PLAN_WORDS {
-        return false;
-    }
-    if table < MOST_POINTS {
-        return false;
-    }
-    MOST_PRINTED <= out
+    HELD_AT_MOST <= line
+        && LONGEST_LINE <= defaults
+        && PLAN_WORDS <= plan
+        && MOST_POINTS <= table
+        && MOST_PRINTED <= out
 }
 
 // The bounds that a call asks of a progress; whether a run comes to it is not asked.
 fn is_within_bounds(progress: Progress) -> bool
     ensures { result ≡ is_within_bounds progress }
 {
-    if HELD_AT_MOST < progress.held {
-        return false;
-    }
-    if LONGEST_LINE < progress.kept {
-        return false;
-    }
-    progress.number < u64::MAX
+    progress.held <= HELD_AT_MOST
+        && progress.kept <= LONGEST_LINE
+        && progress.number < u64::MAX
 }
 
 fn refused(progress: Progress) -> Stepped
@@ -92,7 +80,7 @@ fn hold(line: &mut [u8], held: usize, more: &[u8]) -> usize
         line[held..end].copy_from_slice(more);
         return end;
     }
-    line[held..HELD_AT_MOST].copy_from_slice(&more[0..room]);
+    line[held..HELD_AT_MOST].copy_from_slice(&more[..room]);
     HELD_AT_MOST
 }
 
@@ -124,27 +112,20 @@ pub fn step(
         return refused(progress);
     }
     let end = fields::find(input, 0, b'\n');
-    let held = hold(line, progress.held, &input[0..end]);
+    let held = hold(line, progress.held, &input[..end]);
     if end == input.len() {
-        let awaited = progress.awaited;
         return Stepped {
             ok: true,
-            progress: Progress {
-                awaited,
-                number: progress.number,
-                held,
-                kept: progress.kept,
-            },
+            progress: Progress { held, ..progress },
             used: end,
             wrote: 0,
         };
     }
     let used = end + 1;
-    let done = table_lines::end_line(tool, progress, &line[0..held], defaults, plan, table, out);
-    let reached = done.progress;
+    let done = table_lines::end_line(tool, progress, &line[..held], defaults, plan, table, out);
     Stepped {
         ok: true,
-        progress: reached,
+        progress: done.progress,
         used,
         wrote: done.wrote,
     }
@@ -174,19 +155,18 @@ fn last_line(
         ≡ last_line tool progress (lent line.now defaults.old plan.old table.old out.old) }
     ensures wrote_in_bounds { result.wrote + 67 ≤ length out.old }
 {
-    let held = progress.held;
-    if held == 0 {
+    if progress.held == 0 {
         return LineDone { progress, wrote: 0 };
     }
     let room = out.len() - MOST_AT_THE_END;
     table_lines::end_line(
         tool,
         progress,
-        &line[0..held],
+        &line[..progress.held],
         defaults,
         plan,
         table,
-        &mut out[0..room],
+        &mut out[..room],
     )
 }
 
@@ -216,15 +196,11 @@ pub fn finish(
         return refused(progress);
     }
     let done = last_line(tool, progress, line, defaults, plan, table, out);
-    let wrote = done.wrote;
-    let reached = done.progress;
-    let awaited = reached.awaited;
-    let more = table_lines::end_input(awaited, &mut out[wrote..]);
-    let all = wrote + more;
+    let more = table_lines::end_input(done.progress.awaited, &mut out[done.wrote..]);
     Stepped {
         ok: true,
         progress: table_lines::ended(),
         used: 0,
-        wrote: all,
+        wrote: done.wrote + more,
     }
 }

@@ -1,9 +1,8 @@
 -- `end_defaults` keeps the defaults line, or ends the run.
-use mathlib.Core.Path.{ap₂}
+use mathlib.Core.Path.{ap}
 use mathlib.Core.List.{◌++◌}
-use native.Mathlib.Nat.{sub-zero}
 use lib.ListN.{length, drop}
-use Rattle.table_progress.proofs.Holding.{front_length}
+use lib.Seq.{length-take-le}
 use native.Mathlib.Omega.{arith}
 use borrow.Author.Tests.{not-true, not-false}
 use Rattle.table_progress.proofs.LinesEnded.{defaults-refused, defaults-taken, defaults-short}
@@ -11,7 +10,7 @@ use Rattle.table_lines.proofs.end_defaults.Goals as goal
 
 pub copy_from_slice-requires : goal.copy_from_slice-requires
 copy_from_slice-requires c =
-    front_length (length c.args.line.now) c.args.defaults.now
+    length-take-le (length c.args.line.now) c.args.defaults.now
     (omega (arith, defaults-short c.args.line.now c.judge_defaults-judged.ensures (not-false _ c.if-not-judged.false)))
 
 pub slice_bounds-copy_from_slice-end : goal.slice_bounds-copy_from_slice-end
@@ -34,5 +33,5 @@ returns c =
     let so =
     defaults-taken args.line.now args.defaults.now args.out.now judged.result judged.ensures
     (not-false _ c.if-not-judged.false)
-    (ap₂ (λ s n. s ++ drop n args.defaults.now) c.copy_from_slice.ensures.after (sub-zero (length args.line.now))) in
-    record { progress_value = so.0; wrote = so.1.0; defaults_after = so.1.1 }
+    (ap (λ s. s ++ drop (length args.line.now) args.defaults.now) c.copy_from_slice.ensures.after) in
+    record { progress_value = rw c.ended-2.ensures so.0; wrote = so.1.0; defaults_after = so.1.1 }

@@ -7,12 +7,12 @@ pub returns-then-is_header : goal.returns-then-is_header
 returns-then-is_header c =
     let args = c.args in
     let so = header_taken args.line.now args.out.now (sym c.is_header.ensures ∙ c.if-is_header.true) in
-    record { progress_value = so.0; wrote = so.1 }
+    record { progress_value = rw c.ended.ensures so.0; wrote = so.1 }
 
 pub returns : goal.returns
 returns c =
     let args = c.args in
     let so =
     header_refused args.line.now args.out.now (sym c.is_header.ensures ∙ c.if-is_header.false)
-    c.ended.ensures c.write_no_line-wrote.ensures in
+    c.ended-2.ensures c.write_no_line-wrote.ensures in
     record { progress_value = so.0; wrote = so.1 }
