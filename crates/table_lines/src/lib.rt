@@ -5,6 +5,7 @@
 ghost use Rattle.std.specs.Prelude.{◌≡◌, List, ℕ, ◌+◌, ◌-◌, ◌*◌, ◌^◌, ◌≤◌, ◌<◌, length};
 ghost use Rattle.plan.specs.Measures.{plan_length};
 ghost use Rattle.table.specs.declared.Tool.{Tool};
+ghost use Rattle.table.specs.Lines.{no_line};
 ghost use Rattle.table_fields.specs.Writing.{Wrote};
 ghost use Rattle.table_progress.specs.Printed.{job_prints};
 ghost use Rattle.table_progress.specs.Run.{the_header, the_defaults, a_job, line_prints, end_prints};
@@ -12,11 +13,9 @@ ghost use Rattle.table_progress.specs.Steps.{ended, awaited_by, awaits, progress
 ghost use Rattle.table_progress.specs.declared.Awaited.TheVariants.{Header, Defaults, Job};
 
 use plan::PLAN_WORDS;
-use table::Tool;
+use table::{BadLine, MOST_POINTS, Tool};
 use table_fields::fields;
 use table_progress::{Awaited, LineDone, Progress};
-
-const MOST_POINTS: usize = 4096;
 
 // No line is awaited any more.
 pub fn ended() -> Progress
@@ -30,25 +29,32 @@ pub fn ended() -> Progress
     }
 }
 
+// A header line that is refused, or none.
+fn print_bad_header(out: &mut [u8]) -> usize
+    requires { 67 ≤ length out.old }
+    ensures { Wrote out.old 0 (no_line 0 12 0) result out.new }
+{
+    table_job_lines::write_no_line(out, 0, 12, 0)
+}
+
 // "a line `chain-jobs`, tab, `1`", or the run ends.
 fn end_header(line: &[u8], out: &mut [u8]) -> LineDone
     requires { 67 ≤ length out.old }
     ensures progress_value { result.progress ≡ progress_by Header 0 0 line.now }
     ensures wrote { (tool : Tool) → Wrote out.old 0 (line_prints tool the_header line.now) result.wrote out.new }
 {
-    if table_line_checks::is_header(line) {
+    if !table_line_checks::is_header(line) {
         return LineDone {
-            progress: Progress {
-                awaited: Awaited::Defaults,
-                ..ended()
-            },
-            wrote: 0,
+            progress: ended(),
+            wrote: print_bad_header(out),
         };
     }
-    let wrote = table_job_lines::write_no_line(out, 0, 12, 0);
     LineDone {
-        progress: ended(),
-        wrote,
+        progress: Progress {
+            awaited: Awaited::Defaults,
+            ..ended()
+        },
+        wrote: 0,
     }
 }
 
@@ -60,12 +66,10 @@ fn end_defaults(line: &[u8], defaults: &mut [u8], out: &mut [u8]) -> LineDone
     ensures wrote { (tool : Tool) → Wrote out.old 0 (line_prints tool the_defaults line.now) result.wrote out.new }
     ensures defaults_after { defaults.new ≡ defaults_after the_defaults line.now defaults.old }
 {
-    let judged = table_line_checks::judge_defaults(line);
-    if !judged.ok {
-        let wrote = table_job_lines::write_no_line(out, 0, 11, judged.place);
+    if let Err(bad) = table_line_checks::judge_defaults(line) {
         return LineDone {
             progress: ended(),
-            wrote,
+            wrote: table_jobs::print_bad_line(0, bad, out),
         };
     }
     defaults[..line.len()].copy_from_slice(line);
@@ -145,7 +149,7 @@ pub fn end_line(
         Awaited::Header => end_header(line, out),
         Awaited::Defaults => end_defaults(line, defaults, out),
         Awaited::Job => {
-            let kept = &defaults[0..progress.kept];
+            let kept = &defaults[..progress.kept];
             end_job(tool, progress, line, kept, plan, table, out)
         }
         Awaited::Nothing => LineDone {
@@ -161,9 +165,8 @@ pub fn end_input(awaited: Awaited, out: &mut [u8]) -> usize
     ensures { (n kept : ℕ) (buffer : List ℕ) → Wrote out.old 0 (end_prints (awaited_by awaited n kept buffer)) result out.new }
 {
     match awaited {
-        Awaited::Header => table_job_lines::write_no_line(out, 0, 12, 0),
-        Awaited::Defaults => table_job_lines::write_no_line(out, 0, 11, 0),
-        Awaited::Job => 0,
-        Awaited::Nothing => 0,
+        Awaited::Header => print_bad_header(out),
+        Awaited::Defaults => table_jobs::print_bad_line(0, BadLine::Misshapen, out),
+        Awaited::Job | Awaited::Nothing => 0,
     }
 }
