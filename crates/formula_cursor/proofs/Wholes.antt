@@ -7,7 +7,7 @@ use native.Mathlib.Omega.{arith}
 use lib.Dec.{leb}
 use lib.ListN.{length}
 use borrow.Author.Tests.{leb-true, leb-false}
-use Rattle.formula_scan.specs.declared.Found.{Found}
+use Rattle.formula_scan.specs.Fields.{Found}
 use Rattle.formula.specs.Tree.{Tree}
 use Rattle.formula.specs.Grammar.{Formula}
 use Rattle.formula.specs.Refusals.{TooDeep}
@@ -77,6 +77,14 @@ module _ {w : ℕ} {l out : List ℕ} {r : Found} {now : List ℕ} (whole : Whol
       go : Way w l out r now → SumRead w l 0 0 no_fault out r now
       go (short p is stopped) = absurd (never (complete formula) stopped)
       go (through tree h) = regained tree
+
+  -- A formula is read to its end.
+  pub never_lost : {t : Tree} → Formula l t → r.ok ≡ false → ⊥
+  never_lost formula none = go (way whole)
+    where
+      go : Way w l out r now → ⊥
+      go (short p is stopped) = never (complete formula) stopped
+      go (through tree h) = true≢false (sym (ap (λ (f : Found). f.ok) tree.is) ∙ none)
 
 -- What is found of a whole text is one thing alone, whatever it is written over.
 pub whole_exact : {w : ℕ} {l out over : List ℕ} {r s : Found} {now then : List ℕ} → WholeRead w l out r now → WholeRead w l over s then → r ≡ s

@@ -5,7 +5,7 @@ use Prim.Native.Nat.{ℕ, ◌+◌, ◌-◌, ◌*◌, ◌/◌, ◌%◌, ◌^◌, 
 use native.Mathlib.Omega.{arith}
 use lib.Dec.{leb}
 use borrow.Author.Tests.{le-leb, lt-leb}
-use Rattle.formula_scan.specs.declared.Numeral.{Numeral}
+use Rattle.formula_scan.specs.Fields.{Numeral}
 use Rattle.formula_scan.specs.Readers.{kept, Pushed}
 
 pub kept_fits : (w v : ℕ) → v < 2 ^ w → kept w v ≡ v

@@ -7,13 +7,15 @@ use native.Mathlib.Omega.{arith}
 use lib.Dec.{eqb, ltb}
 use lib.ListN.{length, drop, length-drop}
 use borrow.Author.Tests.{ltb-true, ltb-false}
-use Rattle.formula_scan.specs.declared.Found.{Found}
+use Rattle.std.specs.Prelude.{Result, Ok, Err}
+use Rattle.formula_scan.specs.declared.Parsed.{Parsed}
+use Rattle.formula_scan.specs.Fields.{Found, as_found}
 use Rattle.formula.specs.Answer.{ReadAnswer}
 use Rattle.formula.specs.Refusals.{too_long}
 use Rattle.formula.specs.Tree.{Tree, number, variable, sum, difference, product, minus, literal_power, raise, holds_x}
 use Rattle.formula_scan.specs.Scan.{Byte, plus_byte, minus_byte, star_byte, caret_byte, open_byte, close_byte, x_byte, zero_byte, digit_byte, other_byte, byte_of, Piece, number_to, literal_to, no_sum, Level, level, Outer, bottom, in_brackets, in_exponent, State, operand, in_number, atomed, after_caret, in_literal, powered, stopped, closed, after_power, after_atom, after_digit, after_literal_digit, before_operand, before_exponent, step, reads, stops, ended, ending, run}
 use Rattle.formula_scan.specs.Readers.{fault_places, waiting, parity, base_fault, faulted, stopping, fails, SumRead, ProductRead, Judged, refuses, accepts}
-use Rattle.formula_scan.specs.Packing.{fault_codes, flags, flag, left_of, unpacked, Packable, Packs}
+use Rattle.formula_scan.specs.Packing.{fault_codes, flags, flag, left_of, unpacked, Tells, Packable, Packs}
 use Rattle.formula_scan.proofs.Judging.{fault_number}
 use Rattle.formula_scan.proofs.Ways.{Got, lost, got_odd, got_few, ProductSoFar, SumSoFar}
 
@@ -226,6 +228,12 @@ module _ {w : ℕ} {l : List ℕ} {at n f : ℕ} {out : List ℕ} {r : Found} {n
 
   pub sum-stops : SumRead w l at n f out r now → r.ok ≡ false → SumRead w l at n f out (stopping r.at) now
   sum-stops read none = fails refl (lost read none)
+
+-- And so does what tells of it.
+pub told_read : {w : ℕ} {l : List ℕ} {at n f : ℕ} {out : List ℕ} {r : Found} {now : List ℕ} (x : Result Parsed ℕ) → Tells r x → SumRead w l at n f out r now
+    → SumRead w l at n f out (as_found x) now
+told_read {w} {l} {at} {n} {f} {out} {now = now} (Ok p) is read = subst (λ s. SumRead w l at n f out s now) is read
+told_read (Err at) (none, place) read = fails refl (λ c. lost read none c ∙ ap (λ p. stops p) place)
 
 -- What is got of a text that packs does so too.
 module _ {w : ℕ} {C : Type 0} {from : C → State} {to : C → Piece → State} {Next : ℕ → Type 0} {l : List ℕ} {at n f : ℕ} {out : List ℕ} {r : Found} {now : List ℕ}

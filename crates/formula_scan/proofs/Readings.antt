@@ -10,8 +10,7 @@ use lib.Dec.{leb}
 use lib.ListN.{length, get_or, take, drop, length-drop}
 use lib.Seq.{take-suc, get_or-drop}
 use borrow.Author.Tests.{leb-true, le-leb, lt-leb}
-use Rattle.formula_scan.specs.declared.Found.{Found}
-use Rattle.formula_scan.specs.declared.Numeral.{Numeral}
+use Rattle.formula_scan.specs.Fields.{Found, Numeral}
 use Rattle.formula.specs.Bytes.{Digit}
 use Rattle.formula.specs.Grammar.{Number, nought}
 use Rattle.formula.specs.Tree.{span}

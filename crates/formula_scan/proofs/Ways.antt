@@ -10,9 +10,7 @@ use lib.Dec.{eqb, leb, ltb}
 use lib.ListN.{length, get_or, drop}
 use lib.Pow.{pow_pos}
 use borrow.Author.Tests.{le-leb, lt-leb, ltb-true, ltb-false, ne_eqb, eq-eqb, eqb-true, eqb-false}
-use Rattle.formula_scan.specs.declared.Found.{Found}
-use Rattle.formula_scan.specs.declared.Left.{Left}
-use Rattle.formula_scan.specs.declared.Numeral.{Numeral}
+use Rattle.formula_scan.specs.Fields.{Found, Left, Numeral}
 use Rattle.formula.specs.Bytes.{Digit}
 use Rattle.formula.specs.Tree.{Span, span, Tree, number, variable, sum, difference, product, minus, literal_power, raise, nodes, holds_x}
 use Rattle.formula_scan.specs.Scan.{Byte, plus_byte, minus_byte, star_byte, caret_byte, open_byte, close_byte, x_byte, zero_byte, digit_byte, other_byte, byte_of, Piece, piece, noded, negative, raise_to, joined, PendingSum, no_sum, adding, subtracting, PendingProduct, no_product, multiplying, Level, level, Outer, bottom, in_brackets, in_exponent, fresh, State, operand, atomed, after_caret, powered, stopped, negatives, product_with, sum_with, closed, after_power, after_atom, before_operand, before_exponent, step, stops, ended, ending, run}
