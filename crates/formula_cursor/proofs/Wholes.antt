@@ -17,21 +17,12 @@ use Rattle.formula_scan.proofs.Ways.{got, lost, regained, WholeBracket}
 use Rattle.formula_scan.proofs.Reaching.{complete}
 use Rattle.formula_scan.proofs.GrammarScan.{unambiguous, stops_at, stops-unique}
 use Rattle.formula_scan.proofs.Judging.{scanned-short, whole_formula, judged_stop}
-use Rattle.formula_cursor.specs.Whole.{Scanned, if_ended, WholeRead}
+use Rattle.formula_cursor.specs.Whole.{WholeRead}
 
 -- No word is written where there is no tree.
 pub none_written : {w : ℕ} (l : List ℕ) (r : Found) (now : List ℕ) → WholeRead w l [] r now → length now ≡ 0 → WholeRead w l [] r []
 none_written l r [] read e = read
 none_written l r (a ∷ now) read e = absurd (omega arith)
-
--- A cursor made at the start of a text and moved past the sum at its place reads the whole text.
-pub by_cursor : {w : ℕ} {l m n out now : List ℕ} {p k : ℕ} {sum r : Found} → m ≡ l → p ≡ 0 → Scanned w m p out sum now → n ≡ m → k ≡ sum.at → r ≡ if_ended n k sum
-    → WholeRead w l out r now
-by_cursor {w} {m = m} {out = out} {now = now} {sum = sum} text start scanned same reached ended = record {
-  sum = sum;
-  scanned = subst (λ t. Scanned w t 0 out sum now) text (subst (λ q. Scanned w m q out sum now) start scanned);
-  is = ended ∙ ap₂ (λ t q. if_ended t q sum) (same ∙ text) reached;
-}
 
 -- A text that is read as a tree does not stop.
 never : {o : Outcome} {t : Tree} {p : ℕ} → o ≡ reads t → o ≡ stops p → ⊥

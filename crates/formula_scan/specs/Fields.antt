@@ -1,5 +1,5 @@
 -- What the readers answer one another, as the definitions speak of it: a flag beside each value that may be missing.
-use Rattle.std.specs.Prelude.{Bool, true, false, Option, Some, None, Result, Ok, Err, ℕ, ◌-◌, ◌^◌, is_none, unwrap_or}
+use Rattle.std.specs.Prelude.{Bool, true, false, Result, Ok, Err, ℕ, is_none, unwrap_or}
 use Rattle.formula_scan.specs.declared.Decimal.{Decimal}
 use Rattle.formula_scan.specs.declared.LeftOperand.{LeftOperand}
 use Rattle.formula_scan.specs.declared.Parsed.{Parsed}

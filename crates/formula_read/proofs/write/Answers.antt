@@ -1,10 +1,9 @@
 -- `write` leaves the words of an accepted text's tree over all lent words.
-use Prim.Native.Nat.{ℕ, suc, ◌-◌}
+use Prim.Native.Nat.{suc, ◌-◌}
 use mathlib.Core.Path.{◌≡◌, ◌∙◌, ap, refl}
 use native.Mathlib.Omega.{arith}
 use lib.ListN.{length, replicate}
-use Rattle.std.specs.Prelude.{Ok, Err}
-use Rattle.formula_scan.specs.Fields.{as_parsed, as_found}
+use Rattle.formula_scan.specs.Fields.{as_parsed}
 use Rattle.formula_scan.specs.Readers.{over_words}
 use Rattle.formula_scan.proofs.Deciding.{over-written}
 use Rattle.formula_cursor.proofs.Wholes.{formula_read, never_lost}

@@ -1,5 +1,5 @@
 -- Each return is one way of proofs/Ways.antt in formula_scan.
-use mathlib.Core.Bool.{◌||◌, true, false}
+use mathlib.Core.Bool.{◌||◌, true}
 use mathlib.Core.Path.{◌∙◌, refl, sym, ap, ap₂}
 use Prim.Native.Nat.{min, ◌+◌}
 use native.Mathlib.Omega.{arith}
