@@ -90,9 +90,8 @@ use Rattle.table.specs.declared.Tool.{Tool}
 use Rattle.table.specs.Parts.{line_feed}
 use Rattle.table.specs.Run.{RunPrints}
 use Rattle.table_progress.specs.declared.Progress.{Progress}
-use Rattle.table_progress.specs.declared.Stepped.{Stepped}
 use Rattle.table_progress.specs.Run.{run}
-use Rattle.table_progress.specs.Steps.{started, Buffers, stepped, finished}
+use Rattle.table_progress.specs.Steps.{Stepped, started, Buffers, stepped, finished}
 use Rattle.table_progress.specs.Runs.{Roomy, Runs}
 use Rattle.table_progress.proofs.Readiness.{step_undone, end_undone}
 use Rattle.table_progress.proofs.Adding.{adds_up}

@@ -2,12 +2,10 @@
 // Which numbers a line prints or holds is decided in the crates above.
 ghost use Rattle.std.specs.Prelude.{◌≡◌, [], ◌∷◌, ◌+◌, ◌≤◌, ◌<◌, length};
 ghost use Rattle.table.specs.Decimal.{decimal};
-ghost use Rattle.table.specs.NumberField.{number_up_to};
-ghost use Rattle.table_fields.specs.Reading.{not_taken};
+ghost use Rattle.table.specs.NumberField.{as_field_number, number_up_to};
 ghost use Rattle.table_fields.specs.Writing.{Wrote};
 
 use formula_digits::{byte_at, is_digit, read_number};
-use table::FieldNumber;
 
 // One byte into the buffer. Answers the place behind it, as every writer here does.
 pub fn write_byte(out: &mut [u8], at: usize, byte: u8) -> usize
@@ -30,33 +28,23 @@ pub fn write_decimal(out: &mut [u8], at: usize, n: u64) -> usize
     write_byte(out, next, b'0' + (n % 10) as u8)
 }
 
-// The answer where a field holds no number, or one that is too large.
-fn refused() -> FieldNumber
-    ensures { result ≡ not_taken }
-{
-    FieldNumber {
-        ok: false,
-        value: 0,
-    }
-}
-
 // The number that a field holds, if it is a number and `most` at most.
-pub fn number_up_to(field: &[u8], most: u64) -> FieldNumber
-    ensures { result ≡ number_up_to most field.now }
+pub fn number_up_to(field: &[u8], most: u64) -> Option<u64>
+    ensures { as_field_number result ≡ number_up_to most field.now }
 {
     if !is_digit(byte_at(field, 0)) {
-        return refused();
+        return None;
     }
     let number = read_number(field, 0);
     if number.at < field.len() {
-        return refused();
+        return None;
     }
     if number.over {
-        return refused();
+        return None;
     }
     let value = number.value;
     if most < value {
-        return refused();
+        return None;
     }
-    FieldNumber { ok: true, value }
+    Some(value)
 }

@@ -21,7 +21,7 @@ use Rattle.fold.proofs.Compiled.{compiled_within}
 use Rattle.fold.specs.Compiling.{Compiling, too_short, refused, accepted}
 use Rattle.table_fields.specs.Writing.{Wrote}
 use Rattle.table_fields.proofs.Joining.{wrote_same}
-use Rattle.table.specs.declared.JobLine.{JobLine}
+use Rattle.table.specs.Judged.{JobLine}
 use Rattle.table.specs.Lines.{no_line, point_lines, direct_values}
 use Rattle.table.specs.Run.{job_plan, first_line, ToolPrints, points_follow, rows_follow}
 use Rattle.table.specs.declared.Tool.{Tool}

@@ -11,9 +11,7 @@ use Rattle.plan.proofs.RowLaws.{part, part_put}
 use Rattle.table_fields.specs.Writing.{Wrote}
 use Rattle.table_fields.proofs.Joining.{wrote_nothing, wrote_same}
 use Rattle.table.specs.Parts.{picked}
-use Rattle.table.specs.Judged.{is_header, judged_defaults, judged_job}
-use Rattle.table.specs.declared.DefaultsLine.{DefaultsLine}
-use Rattle.table.specs.declared.JobLine.{JobLine}
+use Rattle.table.specs.Judged.{DefaultsLine, JobLine, is_header, judged_defaults, judged_job}
 use Rattle.table.specs.Run.{job_plan}
 use Rattle.table.proofs.PartsJudged.{job_small}
 use Rattle.table.specs.Lines.{no_line}

@@ -18,9 +18,8 @@ use Rattle.table.specs.declared.Tool.{Tool}
 use Rattle.table.proofs.PartsFound.{before-taken}
 use Rattle.table.proofs.PartsInLines.{unparted, none-counted}
 use Rattle.table_progress.specs.declared.Progress.{Progress}
-use Rattle.table_progress.specs.declared.Stepped.{Stepped}
 use Rattle.table_progress.specs.Run.{line_prints, end_prints}
-use Rattle.table_progress.specs.Steps.{awaits, ended, Buffers, is_within_bounds, ready, held_with, over}
+use Rattle.table_progress.specs.Steps.{Stepped, awaits, ended, Buffers, is_within_bounds, ready, held_with, over}
 use Rattle.table_progress.specs.Steps.{Outcome, refused_step, line_step, part_step, stepped, last_line, with_end, finished}
 use Rattle.table_progress.specs.Runs.{lent}
 use Rattle.table_progress.proofs.Holding.{Held, put_front, front_length, wrote_fits}

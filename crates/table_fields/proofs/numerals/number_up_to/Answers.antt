@@ -9,8 +9,7 @@ pub returns-then-not-is_digit : goal.returns-then-not-is_digit
 returns-then-not-is_digit c =
     let start = c.args in
     let first = c.byte_at in
-    c.refused.ensures
-    ∙ no_digit-first start.most start.field.now
+    no_digit-first start.most start.field.now
     (λ d. no_digit_test first.result (sym c.is_digit.ensures ∙ c.if-not-is_digit.true) (rw first.ensures d))
 
 pub read_number-number-requires : goal.read_number-number-requires
@@ -21,19 +20,17 @@ read_number-number-requires c =
 pub returns-then-number-field : goal.returns-then-number-field
 returns-then-number-field c =
     let start = c.args in
-    c.refused-then-number-field.ensures ∙ more_behind start.most c.read_number-number.ensures (omega arith)
+    more_behind start.most c.read_number-number.ensures (omega arith)
 
 pub returns-then-number : goal.returns-then-number
 returns-then-number c =
     let start = c.args in
-    c.refused-then-number.ensures
-    ∙ too_long start.most c.read_number-number.ensures (omega arith) (omega arith) c.if-number.true
+    too_long start.most c.read_number-number.ensures (omega arith) (omega arith) c.if-number.true
 
 pub returns-then-most-value : goal.returns-then-most-value
 returns-then-most-value c =
     let start = c.args in
-    c.refused-then-most-value.ensures
-    ∙ too_large start.most c.read_number-number.ensures (omega arith) c.if-number.false (omega arith)
+    too_large start.most c.read_number-number.ensures (omega arith) c.if-number.false (omega arith)
 
 pub returns : goal.returns
 returns c =
