@@ -28,6 +28,19 @@ pub struct Judgement {
     pub place: u64,
 }
 
+impl Judgement {
+    // Of a call whose refusals name no place.
+    pub fn of<T, E: Copy + Into<u64>>(answer: &Result<T, E>) -> Judgement {
+        match answer {
+            Ok(_) => Judgement::default(),
+            Err(refusal) => Judgement {
+                number: (*refusal).into(),
+                place: 0,
+            },
+        }
+    }
+}
+
 impl fmt::Display for Judgement {
     fn fmt<W: fmt::Write>(&self, f: &mut fmt::Formatter<W>) -> fmt::Result {
         let Judgement { number, place } = *self;

@@ -1,15 +1,52 @@
 // The words of a plan as a case writes them: its next row, words at a place of their own, and the grid that a formula is compiled on.
 // What is asked of a plan is up to `edges` and `edges_reasons`.
 use crate::{text, words};
-use plan::{ROW_WORDS, SPAN_START};
+use plan::{PLAN_WORDS, ROW_WORDS, SPAN_START};
+
+// The words of a case's plan, some of them past those that a call may reach.
+pub const CASE_WORDS: usize = 3000;
 
 // The place of a row's end byte.
 pub const END_BYTE: usize = SPAN_START + 1;
+
+// The grid of a formula of which a case says none.
+pub const PLAIN: Grid = Grid { start: 0, step: 1 };
 
 #[derive(Clone, Copy)]
 pub struct Grid {
     pub start: u64,
     pub step: u64,
+}
+
+// A plan as a case writes it, and how many of its words are lent.
+#[derive(Drop)]
+pub struct CasePlan {
+    pub words: [u64; CASE_WORDS],
+    pub lent: usize,
+}
+
+impl CasePlan {
+    pub fn new() -> CasePlan {
+        let words = [0; CASE_WORDS];
+        CasePlan {
+            words,
+            lent: PLAN_WORDS,
+        }
+    }
+
+    pub fn lent(&mut self) -> &mut [u64] {
+        let count = self.lent.min(CASE_WORDS);
+        &mut self.words[..count]
+    }
+
+    // Does what a token says: #2816 lends 2,816 words, @40,7,8 puts 7 and 8 in the words from 40 on, and any other one is the next row.
+    pub fn write(&mut self, token: &[u8]) {
+        match token {
+            [b'#', count @ ..] => self.lent = text::number(count) as usize,
+            [b'@', list @ ..] => plant(list, &mut self.words),
+            _ => add(token, &mut self.words),
+        }
+    }
 }
 
 // The next row. Its text is the first byte, unless the token has a word for its end.
