@@ -10,7 +10,7 @@ use Rattle.plan.proofs.RowLaws.{part, part_put, part-put}
 use Rattle.formula.specs.Tree.{Span, Tree, span_of, nodes}
 use Rattle.formula.specs.Words.{most_nodes}
 use Rattle.formula.specs.Refusals.{Accepted}
-use Rattle.formula.specs.declared.ReadAnswer.{ReadAnswer}
+use Rattle.formula.specs.Answer.{ReadAnswer}
 use Rattle.formula_scan.specs.Readers.{spanned_tree, spanned_words, ReadOver, refused_over, accepted-over}
 use Rattle.formula_scan.proofs.Answers.{accepted_fits}
 use Rattle.formula_scan.proofs.Judging.{fault_number}

@@ -14,7 +14,7 @@ use Rattle.formula.specs.Words.{most_nodes}
 use Rattle.plan.specs.Measures.{plan_length, row_length, most_rows, row_start}
 use Rattle.word.specs.Word as Word
 use Rattle.word.proofs.Modulo.{mod-mul-mod, mul-mod-mod}
-use Rattle.formula.specs.declared.ReadAnswer.{ReadAnswer}
+use Rattle.formula.specs.Answer.{ReadAnswer}
 use Rattle.formula.specs.Tree.{Span, first, end, Tree, span_of, number, literal_power, nodes}
 use Rattle.formula.specs.Grammar.{Formula}
 use Rattle.formula.specs.Value.{direct_value}

@@ -19,7 +19,7 @@ use Rattle.word.specs.Signed as Signed
 use Rattle.word.specs.Signed.{half, signed}
 use Rattle.word.proofs.Unique as WordPromises
 use Rattle.word.proofs.Unique.{both_are}
-use Rattle.formula.specs.declared.ReadAnswer.{ReadAnswer}
+use Rattle.formula.specs.Answer.{ReadAnswer}
 use Rattle.formula.specs.Tree.{first, end, Tree, span_of}
 use Rattle.formula.specs.Grammar.{Formula}
 use Rattle.formula.specs.Value.{direct_value}

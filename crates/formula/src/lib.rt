@@ -2,6 +2,12 @@
 // The readers themselves are in `formula_digits`, `formula_nodes` and `formula_readers`; `formula_read` judges a whole text.
 #![tactic(auto)]
 
+ghost use Rattle.std.specs.Prelude.{◌≡◌};
+ghost use Rattle.formula.specs.Answer.{refusal_number, refusal_place};
+
+// The bytes of a text at most.
+pub const LONGEST_TEXT: usize = 1024;
+
 // The nodes of a tree at most, and the words that a tree takes: the node count, then two words a node.
 pub const MOST_NODES: usize = 128;
 
@@ -12,9 +18,48 @@ pub const NUMBER: u64 = 0;
 
 pub const VARIABLE: u64 = 1;
 
-// The refusal's number and place; 0 and 0 if accepted.
-#[derive(Clone, Copy)]
-pub struct ReadAnswer {
-    pub number: u64,
-    pub place: u64,
+// Why a formula is refused, by 01's table, with the place in the text where that depends on the text.
+#[derive(Clone, Copy, Debug, PartialEq, Eq)]
+pub enum Refusal {
+    BufferTooShort,
+    TextTooLong,
+    BracketsTooDeep(u64),
+    NotAFormula(u64),
+    NumberTooLarge(u64),
+    ExponentTooLarge(u64),
+    TooManyNodes,
+    BaseNotOdd(u64),
+}
+
+impl Refusal {
+    // The refusal's number in 01's table.
+    pub fn number(self) -> u64
+        ensures { result ≡ refusal_number self }
+    {
+        match self {
+            Refusal::BufferTooShort => 1,
+            Refusal::TextTooLong => 2,
+            Refusal::BracketsTooDeep(_) => 3,
+            Refusal::NotAFormula(_) => 4,
+            Refusal::NumberTooLarge(_) => 5,
+            Refusal::ExponentTooLarge(_) => 6,
+            Refusal::TooManyNodes => 7,
+            Refusal::BaseNotOdd(_) => 8,
+        }
+    }
+
+    // The place that the refusal names: 1024 for a text that is too long, 0 where it names none.
+    pub fn place(self) -> u64
+        ensures { result ≡ refusal_place self }
+    {
+        match self {
+            Refusal::BufferTooShort | Refusal::TooManyNodes => 0,
+            Refusal::TextTooLong => LONGEST_TEXT as u64,
+            Refusal::BracketsTooDeep(place)
+            | Refusal::NotAFormula(place)
+            | Refusal::NumberTooLarge(place)
+            | Refusal::ExponentTooLarge(place)
+            | Refusal::BaseNotOdd(place) => place,
+        }
+    }
 }

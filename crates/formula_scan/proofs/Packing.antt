@@ -8,7 +8,7 @@ use lib.Dec.{eqb, ltb}
 use lib.ListN.{length, drop, length-drop}
 use borrow.Author.Tests.{ltb-true, ltb-false}
 use Rattle.formula_scan.specs.declared.Found.{Found}
-use Rattle.formula.specs.declared.ReadAnswer.{ReadAnswer}
+use Rattle.formula.specs.Answer.{ReadAnswer}
 use Rattle.formula.specs.Refusals.{too_long}
 use Rattle.formula.specs.Tree.{Tree, number, variable, sum, difference, product, minus, literal_power, raise, holds_x}
 use Rattle.formula_scan.specs.Scan.{Byte, plus_byte, minus_byte, star_byte, caret_byte, open_byte, close_byte, x_byte, zero_byte, digit_byte, other_byte, byte_of, Piece, number_to, literal_to, no_sum, Level, level, Outer, bottom, in_brackets, in_exponent, State, operand, in_number, atomed, after_caret, in_literal, powered, stopped, closed, after_power, after_atom, after_digit, after_literal_digit, before_operand, before_exponent, step, reads, stops, ended, ending, run}

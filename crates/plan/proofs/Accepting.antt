@@ -10,10 +10,9 @@ use lib.ListN.{length, drop}
 use lib.Seq.{length-take-le}
 use borrow.Author.Tests.{ltb-false, eq-eqb, ne_eqb}
 use Rattle.plan.specs.Measures.{plan_length}
-use Rattle.plan.specs.declared.FillAnswer.{FillAnswer}
-use Rattle.plan.specs.declared.CostAnswer.{CostAnswer}
+use Rattle.plan.specs.Answers.{SoundAnswer, CostAnswer, FillAnswer}
 use Rattle.plan.specs.Plan.{sound, cost, refusal}
-use Rattle.plan.specs.Filling.{points_for, plan_after, point_values, filled, fill_refused, fill, cost_answer}
+use Rattle.plan.specs.Filling.{points_for, plan_after, point_values, filled, fill_refused, fill, cost_answer, sound_answer}
 use Rattle.plan.proofs.RowLaws.{part, part_put}
 
 -- ---- refusal
@@ -25,6 +24,10 @@ accepted p = judged (ltb (length p) plan_length) (sound p) refl
     judged true good e h = absurd (suc-ne-zero 0 h)
     judged false true e h = (ltb-false (length p) plan_length e, refl)
     judged false false e h = absurd (suc-ne-zero 8 h)
+
+-- What a call knows of a plan that was found sound.
+pub found_sound : (p : List ℕ) → record { number = 0; place = 0 } ≡ sound_answer p → refusal p ≡ 0
+found_sound p e = sym (ap (λ (r : SoundAnswer). r.number) e)
 
 -- ---- cost
 abbrev costing : ℕ → ℕ → CostAnswer

@@ -22,7 +22,7 @@ use Rattle.chain.specs.Chain.{value}
 use Rattle.chain.specs.Crossing.{signed_step, crossed_by, crossing}
 use Rattle.chain.proofs.CrossingLaws.{exact_shift}
 use Rattle.plan.specs.Measures.{row_length}
-use Rattle.plan.specs.declared.FillErasAnswer.{FillErasAnswer}
+use Rattle.plan.specs.Answers.{FillErasAnswer}
 use Rattle.plan.specs.Row.{kind, word_a, first_element, row_cost, is_chain}
 use Rattle.plan.specs.Plan.{row_count, sound, rows_from, first_rows, cost, cost_of, refusal}
 use Rattle.plan.specs.Points.{shifted_plan}

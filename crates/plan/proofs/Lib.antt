@@ -4,6 +4,7 @@ pub mod SoundLaws
 pub mod Keeping
 pub mod SpanLaws
 pub mod Later
+pub mod Decoding
 pub mod Accepting
 pub mod Sharing
 pub mod RootChains

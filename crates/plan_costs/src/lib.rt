@@ -6,12 +6,13 @@ ghost use Rattle.std.specs.Prelude.{◌≡◌, true, ◌≤◌, ◌<◌, min, le
 ghost use Rattle.plan.specs.Measures.{plan_length, row_length};
 ghost use Rattle.plan.specs.Row.{kind, word_b, row_cost};
 ghost use Rattle.plan.specs.Plan.{sound, cost};
+ghost use Rattle.plan.specs.Answers.{as_cost_answer};
 ghost use Rattle.plan.specs.Filling.{cost_answer};
 
-use plan::CostAnswer;
+use plan::Refusal;
 use plan_rows::kinds::LITERAL_POWER;
 use plan_rows::{kinds, row};
-use plan_sound::refusal;
+use plan_sound::sound;
 
 // The cost of a row of a sound plan.
 pub fn row_cost(row: &[u64]) -> u64
@@ -39,30 +40,17 @@ pub fn plan_cost(plan: &[u64]) -> u64
 {
     let count = plan[0] as usize;
     let mut total = 0;
-    let mut r = 0;
-    while r < count {
+    for r in 0..count {
         total += row_cost(row(plan, r));
-        r += 1;
     }
     total
 }
 
-pub fn cost(plan: &[u64]) -> CostAnswer
-    ensures { result ≡ cost_answer plan.now }
+pub fn cost(plan: &[u64]) -> Result<u64, Refusal>
+    ensures { as_cost_answer result ≡ cost_answer plan.now }
 {
-    let number = refusal(plan);
-    if number != 0 {
-        return CostAnswer {
-            number,
-            place: 0,
-            cost: 0,
-        };
-    }
-    CostAnswer {
-        number: 0,
-        place: 0,
-        cost: plan_cost(plan),
-    }
+    sound(plan)?;
+    Ok(plan_cost(plan))
 }
 
 // Of the points that the table has room for and those that the budget pays for, the fewer are written.

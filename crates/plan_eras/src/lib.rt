@@ -2,19 +2,20 @@
 // What one shift says of a chain is in `chain_arrays`; filling itself is in `plan_fill`, the work of a point in `plan_points`.
 #![tactic(auto)]
 
-ghost use Rattle.std.specs.Prelude.{◌≡◌, true, ◌≤◌, length};
+ghost use Rattle.std.specs.Prelude.{◌≡◌, true, cond, ◌≤◌, length};
 ghost use Rattle.plan.specs.Measures.{plan_length, most_rows};
 ghost use Rattle.plan.specs.Plan.{sound};
+ghost use Rattle.plan.specs.Answers.{number_of, as_fill_eras_answer};
 ghost use Rattle.plan.specs.Filling.{plan_after, point_values};
-ghost use Rattle.plan.specs.Eras.{root_chain, eras_over, eras_refusal, fill_eras};
+ghost use Rattle.plan.specs.Eras.{root_row, root_chain, eras_over, constant_or_sum, eras_refusal, fill_eras};
 ghost use Rattle.chain.specs.Crossing.{crossing};
 
 use chain_arrays::crossed;
-use plan::{ELEMENTS_START, FillErasAnswer, MOST_ROWS};
+use plan::{CountedPoints, ELEMENTS_START, MOST_ROWS, Refusal};
 use plan_costs::lesser;
 use plan_rows::kinds::{CONSTANT, SUM_CHAIN};
 use plan_rows::word;
-use plan_sound::refusal;
+use plan_sound::sound;
 
 // How the root of a sound plan crosses in the shift that follows; only a sum chain does.
 fn root_crossing(plan: &[u64]) -> i64
@@ -63,49 +64,39 @@ fn count_table(plan: &mut [u64], table: &mut [u64]) -> i64
     count_points(plan, table, &mut values)
 }
 
-// 1, then 9, then 16 for a root that is neither a constant nor a sum chain.
-fn eras_refusal(plan: &[u64]) -> u64
-    ensures { result ≡ eras_refusal plan.now }
+// The root of a sound plan is refused if it is neither a constant nor a sum chain.
+fn root_refusal(plan: &[u64]) -> Result<(), Refusal>
+    requires plan_length_in_bounds { plan_length ≤ length plan.now }
+    requires plan_value { sound plan.now ≡ true }
+    ensures { number_of result ≡ cond (constant_or_sum (root_row plan.now)) 0 16 }
 {
-    let judged = refusal(plan);
-    if judged != 0 {
-        return judged;
-    }
     let kind = word(plan, plan[0] as usize - 1, 0);
-    if kind == CONSTANT {
-        return 0;
+    if kind == CONSTANT || kind == SUM_CHAIN {
+        Ok(())
+    } else {
+        Err(Refusal::RootNotSum)
     }
-    if kind == SUM_CHAIN {
-        return 0;
-    }
-    16
+}
+
+// 1, then 9, then 16.
+#[tactic(auto, unfolding(plan::specs::Eras::eras_refusal))]
+fn eras_refusal(plan: &[u64]) -> Result<(), Refusal>
+    ensures { number_of result ≡ eras_refusal plan.now }
+{
+    sound(plan)?;
+    root_refusal(plan)
 }
 
 // As many points as the table has room and the budget pays for, and the crossings of the root over them. A refused call changes nothing.
-pub fn fill_eras(plan: &mut [u64], table: &mut [u64], budget: u64) -> FillErasAnswer
-    ensures value { result ≡ (fill_eras 64 plan.old table.old budget).answer }
+pub fn fill_eras(plan: &mut [u64], table: &mut [u64], budget: u64) -> Result<CountedPoints, Refusal>
+    ensures value { as_fill_eras_answer result ≡ (fill_eras 64 plan.old table.old budget).answer }
     ensures table_after { table.new ≡ (fill_eras 64 plan.old table.old budget).table }
     ensures plan_after { plan.new ≡ (fill_eras 64 plan.old table.old budget).plan }
 {
-    let number = eras_refusal(plan);
-    if number != 0 {
-        return FillErasAnswer {
-            number,
-            place: 0,
-            points: 0,
-            spent: 0,
-            sum: 0,
-        };
-    }
+    eras_refusal(plan)?;
     let point_cost = plan_costs::plan_cost(plan) + 1;
     let points = lesser(table.len(), (budget / point_cost) as usize);
     let sum = count_table(plan, &mut table[0..points]);
     let spent = points as u64 * point_cost;
-    FillErasAnswer {
-        number: 0,
-        place: 0,
-        points,
-        spent,
-        sum,
-    }
+    Ok(CountedPoints { points, spent, sum })
 }

@@ -5,11 +5,12 @@
 ghost use Rattle.std.specs.Prelude.{◌≡◌, true, ◌≤◌, length};
 ghost use Rattle.plan.specs.Measures.{plan_length, most_rows};
 ghost use Rattle.plan.specs.Plan.{sound};
+ghost use Rattle.plan.specs.Answers.{as_fill_answer};
 ghost use Rattle.plan.specs.Filling.{plan_after, point_values, fill};
 
-use plan::{FillAnswer, MOST_ROWS};
+use plan::{FilledPoints, MOST_ROWS, Refusal};
 use plan_costs::lesser;
-use plan_sound::refusal;
+use plan_sound::sound;
 
 // One point for each word of the table: the root's value, and then a shift of every chain. The lent values are scratch.
 fn fill_points(plan: &mut [u64], table: &mut [u64], values: &mut [u64])
@@ -38,28 +39,15 @@ fn fill_table(plan: &mut [u64], table: &mut [u64])
 }
 
 // As many points as the table has room and the budget pays for. A refused call changes nothing.
-pub fn fill(plan: &mut [u64], table: &mut [u64], budget: u64) -> FillAnswer
-    ensures value { result ≡ (fill 64 plan.old table.old budget).answer }
+pub fn fill(plan: &mut [u64], table: &mut [u64], budget: u64) -> Result<FilledPoints, Refusal>
+    ensures value { as_fill_answer result ≡ (fill 64 plan.old table.old budget).answer }
     ensures table_after { table.new ≡ (fill 64 plan.old table.old budget).table }
     ensures plan_after { plan.new ≡ (fill 64 plan.old table.old budget).plan }
 {
-    let number = refusal(plan);
-    if number != 0 {
-        return FillAnswer {
-            number,
-            place: 0,
-            points: 0,
-            spent: 0,
-        };
-    }
+    sound(plan)?;
     let point_cost = plan_costs::plan_cost(plan) + 1;
     let points = lesser(table.len(), (budget / point_cost) as usize);
     fill_table(plan, &mut table[0..points]);
     let spent = points as u64 * point_cost;
-    FillAnswer {
-        number: 0,
-        place: 0,
-        points,
-        spent,
-    }
+    Ok(FilledPoints { points, spent })
 }

@@ -6,9 +6,10 @@ ghost use Rattle.std.specs.Prelude.{◌≡◌, true, [], ◌≤◌, ◌<◌, len
 ghost use Rattle.plan.specs.Measures.{plan_length, most_rows};
 ghost use Rattle.plan.specs.Row.{keeps_table, sound_base, sound_row};
 ghost use Rattle.plan.specs.Plan.{row, first_rows, sound_from, sound, refusal};
+ghost use Rattle.plan.specs.Answers.{as_sound_answer};
 ghost use Rattle.plan.specs.Filling.{sound_answer};
 
-use plan::{MOST_ROWS, PLAN_WORDS, SoundAnswer};
+use plan::{MOST_ROWS, PLAN_WORDS, Refusal};
 use plan_row_checks::{all_zero, keeps_table, odd_constant, span_is_sound};
 use plan_rows::kinds::RAISE;
 use plan_rows::row;
@@ -48,12 +49,10 @@ fn rows_are_sound(plan: &[u64], count: usize) -> bool
     requires count_le_most_rows { count ≤ most_rows }
     ensures { result ≡ sound_from [] (first_rows count plan.now) }
 {
-    let mut r = 0;
-    while r < count {
+    for r in 0..count {
         if !row_is_sound(plan, r) {
             return false;
         }
-        r += 1;
     }
     true
 }
@@ -76,24 +75,26 @@ fn is_sound(plan: &[u64]) -> bool
     all_zero(&plan[end..PLAN_WORDS])
 }
 
-// 1 for a plan that is too short, 9 for one that is not sound, or 0.
+// A plan that is too short is refused before it is judged.
+pub fn sound(plan: &[u64]) -> Result<(), Refusal>
+    ensures { as_sound_answer result ≡ sound_answer plan.now }
+{
+    if plan.len() < PLAN_WORDS {
+        return Err(Refusal::TooShort);
+    }
+    if is_sound(plan) {
+        Ok(())
+    } else {
+        Err(Refusal::Unsound)
+    }
+}
+
+// The refusal's number, or 0.
 pub fn refusal(plan: &[u64]) -> u64
     ensures { result ≡ refusal plan.now }
 {
-    if plan.len() < PLAN_WORDS {
-        return 1;
-    }
-    if is_sound(plan) {
-        return 0;
-    }
-    9
-}
-
-pub fn sound(plan: &[u64]) -> SoundAnswer
-    ensures { result ≡ sound_answer plan.now }
-{
-    SoundAnswer {
-        number: refusal(plan),
-        place: 0,
+    match sound(plan) {
+        Ok(()) => 0,
+        Err(refused) => u64::from(refused),
     }
 }

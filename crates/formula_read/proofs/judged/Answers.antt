@@ -4,7 +4,7 @@ use mathlib.Core.List.{[]}
 use Prim.Native.Nat.{min}
 use native.Mathlib.Omega.{arith}
 use borrow.Author.Tests.{not-true, not-false}
-use Rattle.formula_scan.proofs.Deciding.{judged_fault, judged-faultless}
+use Rattle.formula_scan.proofs.Deciding.{judged_code}
 use Rattle.formula_scan.proofs.Judging.{judged_long, judged-deep, shallow}
 use Rattle.formula_cursor.proofs.Wholes.{whole_lost, whole_got}
 use Rattle.formula_read.proofs.judged.Goals as goal
@@ -23,20 +23,11 @@ returns-then-not-whole c =
     let whole = c.scan_whole-whole in
     whole_lost whole.ensures (omega arith) (shallow text deep.result deep.ensures (omega arith)) (not-true whole.result.ok c.if-not-whole.true)
 
-pub returns-then-code-lt-NO_FAULT : goal.returns-then-code-lt-NO_FAULT
-returns-then-code-lt-NO_FAULT c =
-    let text = c.args.text.now in
-    let deep = c.deep_place-deep in
-    let whole = c.scan_whole-whole in
-    let tree = whole_got whole.ensures (not-false whole.result.ok c.if-not-whole.false) in
-    judged_fault text (omega arith) (shallow text deep.result deep.ensures (omega arith)) [] whole.result [] tree.0 tree.1 c.lesser-code.result
-    (c.lesser-code.ensures ∙ ap (λ k. min whole.result.fault k) c.nodes_fault.ensures) (omega arith)
-
 pub returns : goal.returns
 returns c =
     let text = c.args.text.now in
     let deep = c.deep_place-deep in
     let whole = c.scan_whole-whole in
     let tree = whole_got whole.ensures (not-false whole.result.ok c.if-not-whole.false) in
-    judged-faultless text (omega arith) (shallow text deep.result deep.ensures (omega arith)) [] whole.result [] tree.0 tree.1 c.lesser-code.result
-    (c.lesser-code.ensures ∙ ap (λ k. min whole.result.fault k) c.nodes_fault.ensures) (omega arith)
+    rw c.noted.ensures (judged_code text (omega arith) (shallow text deep.result deep.ensures (omega arith)) [] whole.result [] tree.0 tree.1 c.lesser.result
+    (c.lesser.ensures ∙ ap (λ k. min whole.result.fault k) c.nodes_fault.ensures))
