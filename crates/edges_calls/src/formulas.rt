@@ -42,14 +42,9 @@ pub fn reading(rt: &impl Print, name: &str, formula: &[u8], lent: &str) -> io::R
         count = count.min(text::number(lent.as_bytes()) as usize);
     }
     let answer = formula_read::read(formula, &mut tree[..count]);
-    let judgement = Judgement {
-        number: answer.number,
-        place: answer.place,
-    };
-    print!(rt; "\t{judgement} ")?;
-    if answer.number == 0 {
-        print_tree(rt, &tree)
-    } else {
-        println!(rt; "{}", kept(&tree, 0))
+    print!(rt; "\t{} ", Judgement::of(&answer))?;
+    match answer {
+        Ok(()) => print_tree(rt, &tree),
+        Err(_) => println!(rt; "{}", kept(&tree, 0)),
     }
 }

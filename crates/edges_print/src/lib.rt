@@ -3,6 +3,7 @@
 #![tactic(auto)]
 
 use edges_text::words;
+use probe::ToleranceTooLarge;
 use std::fmt;
 
 // Words, parted by commas.
@@ -29,15 +30,36 @@ pub struct Judgement {
 }
 
 impl Judgement {
-    // Of a call whose refusals name no place.
-    pub fn of<T, E: Copy + Into<u64>>(answer: &Result<T, E>) -> Judgement {
+    pub fn of<T, E: Copy + Into<Judgement>>(answer: &Result<T, E>) -> Judgement {
         match answer {
             Ok(_) => Judgement::default(),
-            Err(refusal) => Judgement {
-                number: (*refusal).into(),
-                place: 0,
-            },
+            Err(refusal) => (*refusal).into(),
         }
+    }
+
+    fn without_place(number: u64) -> Judgement {
+        Judgement { number, place: 0 }
+    }
+}
+
+impl From<formula::Refusal> for Judgement {
+    fn from(refusal: formula::Refusal) -> Judgement {
+        Judgement {
+            number: refusal.number(),
+            place: refusal.place(),
+        }
+    }
+}
+
+impl From<plan::Refusal> for Judgement {
+    fn from(refusal: plan::Refusal) -> Judgement {
+        Judgement::without_place(refusal.into())
+    }
+}
+
+impl From<ToleranceTooLarge> for Judgement {
+    fn from(refusal: ToleranceTooLarge) -> Judgement {
+        Judgement::without_place(refusal.into())
     }
 }
 

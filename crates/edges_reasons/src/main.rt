@@ -6,6 +6,7 @@ use edges_print::Judgement;
 use edges_text::rows::{CasePlan, Grid};
 use edges_text::{input, notation, rows, text, words};
 use plan::MOST_ROWS;
+use reason::Explained;
 use std::{io, str};
 
 // One byte more than the input may have.
@@ -14,21 +15,19 @@ const MOST_READ: usize = 65536;
 // number place reason first end
 fn ask(rt: &impl Print, plan: &[u64], row: usize) -> io::Result<()> {
     let answer = reason_call::reason(plan, row);
-    let judgement = Judgement {
-        number: answer.number,
-        place: answer.place,
-    };
-    print!(rt; "\t{judgement} {} {} {}", answer.reason, answer.first, answer.end)
+    let judgement = Judgement::of(&answer);
+    match answer {
+        Ok(Explained { reason, first, end }) => {
+            print!(rt; "\t{judgement} {} {first} {end}", reason.map_or(0, u64::from))
+        }
+        Err(_) => print!(rt; "\t{judgement} 0 0 0"),
+    }
 }
 
 // Compiles into the words that are lent: number place rows
 fn compile_on(rt: &impl Print, formula: &[u8], grid: Grid, plan: &mut CasePlan) -> io::Result<()> {
     let answer = compile::compile(formula, grid.start, grid.step, plan.lent());
-    let judgement = Judgement {
-        number: answer.number,
-        place: answer.place,
-    };
-    print!(rt; "\tcompile {judgement} {}", plan.words[0])
+    print!(rt; "\tcompile {} {}", Judgement::of(&answer), plan.words[0])
 }
 
 // Does what a token says. r5 asks for row 5, =x^3 compiles a formula and g5,2:x^3 does on a grid; the others write the plan.

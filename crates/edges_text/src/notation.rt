@@ -30,7 +30,7 @@ fn repeated(repeat: &[u8], out: &mut [u8], end: usize) -> usize
 }
 
 // Writes the bytes that the notation stands for, as far as there is room, and lends them.
-pub fn expand<'a>(notation: &[u8], out: &'a mut [u8]) -> &'a [u8] {
+pub fn expand<'a>(notation: &[u8], out: &'a mut [u8]) -> &'a mut [u8] {
     let mut end = 0;
     let mut rest = notation;
     // Kept: (d) how long a token is shows as it is read, so no iterator of the library parts the notation in tokens.
@@ -51,5 +51,5 @@ pub fn expand<'a>(notation: &[u8], out: &'a mut [u8]) -> &'a [u8] {
             }
         }
     }
-    &out[..end]
+    &mut out[..end]
 }
