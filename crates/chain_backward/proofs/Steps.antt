@@ -15,7 +15,7 @@ use Rattle.chain.proofs.Shifting.{length_shift, length-from_top, words-shift, wo
 use Rattle.chain.proofs.Backward.{forward_inverse_words, backward_words}
 use Rattle.chain.proofs.Conversions.{length-converted, word-sum_of_words, to_forward_words}
 use Rattle.chain.proofs.BackwardCalls.{top_pads, bottom_pads, converted_pads, given-words, changed_trims}
-use Rattle.chain_arrays.specs.declared.Operation.TheVariants.{Difference}
+use Rattle.chain_arrays.specs.Operations.{Difference}
 use Rattle.chain_arrays.specs.Operations.{joining, shifted_by}
 
 difference-zero : (w a : ℕ) → Word.difference w (a % 2 ^ w) 0 ≡ a % 2 ^ w

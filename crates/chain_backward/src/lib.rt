@@ -11,17 +11,17 @@ ghost use Rattle.chain_arrays.specs.Operations.{worked};
 ghost use Rattle.chain_backward.specs.Alternating.{alternated};
 
 use chain::{ChainAnswer, ValueAnswer};
-use chain_arrays::{LONGEST, Operation, accepted, refusal};
+use chain_arrays::{Difference, LONGEST, Operation, Sum, accepted, refusal};
 
 // The chain f of length k after one step from the top down.
-fn from_top(operation: Operation, f: [u64; 17], k: usize) -> ChainAnswer
-    ensures { result ≡ answered (unless_long k (chain (trimmed 0 (shift_from_top (worked operation) (row 17 (take (k + 1) f)))))) }
+fn from_top<O: Operation>(f: [u64; 17], k: usize) -> ChainAnswer
+    ensures { result ≡ answered (unless_long k (chain (trimmed 0 (shift_from_top (worked O.operation) (row 17 (take (k + 1) f)))))) }
 {
     if LONGEST < k {
         return refusal(14);
     }
     let mut shifted = chain_arrays::kept(f, k);
-    chain_arrays::shift_from_top(operation, &mut shifted);
+    chain_arrays::shift_from_top::<O>(&mut shifted);
     accepted(shifted)
 }
 
@@ -29,7 +29,7 @@ fn from_top(operation: Operation, f: [u64; 17], k: usize) -> ChainAnswer
 pub fn inverse_shift(f: [u64; 17], k: usize) -> ChainAnswer
     ensures { result ≡ answered (inverse_shift_outcome 64 f k) }
 {
-    from_top(Operation::Difference, f, k)
+    from_top::<Difference>(f, k)
 }
 
 // The word at the present point: a backward chain's first element, as a forward one's.
@@ -43,7 +43,7 @@ pub fn backward_value(f: [u64; 17], k: usize) -> ValueAnswer
 pub fn backward_shift(f: [u64; 17], k: usize) -> ChainAnswer
     ensures { result ≡ answered (backward_shift_outcome 64 f k) }
 {
-    from_top(Operation::Sum, f, k)
+    from_top::<Sum>(f, k)
 }
 
 // A backward chain one index back, from the bottom up.
@@ -54,7 +54,7 @@ pub fn backward_inverse_shift(f: [u64; 17], k: usize) -> ChainAnswer
         return refusal(14);
     }
     let mut shifted = chain_arrays::kept(f, k);
-    chain_arrays::shift_part(Operation::Difference, &mut shifted);
+    chain_arrays::shift_part::<Difference>(&mut shifted);
     accepted(shifted)
 }
 
@@ -72,7 +72,7 @@ fn signed_at(at: usize, a: u64) -> u64
     if at % 2 == 0 {
         return a;
     }
-    std::num::wrapping_sub_u64(0, a)
+    a.wrapping_neg()
 }
 
 // The chain with alternating signs. What a backward chain gives walking back, that forward chain gives walking on.
@@ -80,10 +80,8 @@ fn alternated(f: [u64; 17]) -> [u64; 17]
     ensures { result ≡ words 64 (alternated 64 f) }
 {
     let mut r = chain_arrays::zeros();
-    let mut i = 0;
-    while i < 17 {
+    for i in 0..17 {
         r[i] = signed_at(i, f[i]);
-        i += 1;
     }
     r
 }
@@ -103,26 +101,24 @@ pub fn backward_product(f: [u64; 17], k: usize, g: [u64; 17], l: usize) -> Chain
 }
 
 // In place: the first word stays, the rest goes one step from the top down, and so on with the rest.
-fn convert(operation: Operation, f: &mut [u64])
+fn convert<O: Operation>(f: &mut [u64])
     requires { length f.old ≡ 17 }
-    ensures { f.new ≡ converted (shift_from_top (worked operation)) f.old }
+    ensures { f.new ≡ converted (shift_from_top (worked O.operation)) f.old }
 {
-    let mut j = 0;
-    while j < 16 {
-        chain_arrays::shift_from_top(operation, &mut f[j + 1..17]);
-        j += 1;
+    for j in 1..17 {
+        chain_arrays::shift_from_top::<O>(&mut f[j..17]);
     }
 }
 
 // The chain f of length k, converted.
-fn conversion(operation: Operation, f: [u64; 17], k: usize) -> ChainAnswer
-    ensures { result ≡ answered (unless_long k (chain (trimmed 0 (converted (shift_from_top (worked operation)) (row 17 (take (k + 1) f)))))) }
+fn conversion<O: Operation>(f: [u64; 17], k: usize) -> ChainAnswer
+    ensures { result ≡ answered (unless_long k (chain (trimmed 0 (converted (shift_from_top (worked O.operation)) (row 17 (take (k + 1) f)))))) }
 {
     if LONGEST < k {
         return refusal(14);
     }
     let mut elements = chain_arrays::kept(f, k);
-    convert(operation, &mut elements);
+    convert::<O>(&mut elements);
     accepted(elements)
 }
 
@@ -130,12 +126,12 @@ fn conversion(operation: Operation, f: [u64; 17], k: usize) -> ChainAnswer
 pub fn to_backward(f: [u64; 17], k: usize) -> ChainAnswer
     ensures { result ≡ answered (to_backward_outcome 64 f k) }
 {
-    conversion(Operation::Difference, f, k)
+    conversion::<Difference>(f, k)
 }
 
 // The forward chain that gives what a backward one gives.
 pub fn to_forward(f: [u64; 17], k: usize) -> ChainAnswer
     ensures { result ≡ answered (to_forward_outcome 64 f k) }
 {
-    conversion(Operation::Sum, f, k)
+    conversion::<Sum>(f, k)
 }

@@ -8,10 +8,7 @@ ghost use Rattle.chain_arrays.specs.Operations.{word_by_word};
 ghost use Rattle.chain.specs.Answer.{answered, chain, unless_long, trim_outcome, sum_outcome, difference_outcome, product_outcome, shift_answer, value_answer};
 
 use chain::{ChainAnswer, ShiftAnswer, ValueAnswer};
-use chain_arrays::{LONGEST, Operation, accepted, refusal};
-
-// The longest product.
-const LONGEST_PRODUCT: usize = 16;
+use chain_arrays::{Difference, LONGEST, Operation, Sum, accepted, refusal};
 
 // The chain f of length k without its trailing zeros.
 pub fn trim(f: [u64; 17], k: usize) -> ChainAnswer
@@ -25,8 +22,8 @@ pub fn trim(f: [u64; 17], k: usize) -> ChainAnswer
 }
 
 // The sum or the difference of the chains f of length k and g of length l.
-fn combined(operation: Operation, f: [u64; 17], k: usize, g: [u64; 17], l: usize) -> ChainAnswer
-    ensures { result ≡ answered (unless_long k (unless_long l (chain (trimmed 0 (word_by_word operation (row 17 (take (k + 1) f)) (row 17 (take (l + 1) g))))))) }
+fn combined<O: Operation>(f: [u64; 17], k: usize, g: [u64; 17], l: usize) -> ChainAnswer
+    ensures { result ≡ answered (unless_long k (unless_long l (chain (trimmed 0 (word_by_word O.operation (row 17 (take (k + 1) f)) (row 17 (take (l + 1) g))))))) }
 {
     if LONGEST < k {
         return refusal(14);
@@ -34,8 +31,7 @@ fn combined(operation: Operation, f: [u64; 17], k: usize, g: [u64; 17], l: usize
     if LONGEST < l {
         return refusal(14);
     }
-    let combined = chain_arrays::word_by_word(
-        operation,
+    let combined = chain_arrays::word_by_word::<O>(
         chain_arrays::kept(f, k),
         chain_arrays::kept(g, l),
     );
@@ -45,13 +41,13 @@ fn combined(operation: Operation, f: [u64; 17], k: usize, g: [u64; 17], l: usize
 pub fn sum(f: [u64; 17], k: usize, g: [u64; 17], l: usize) -> ChainAnswer
     ensures { result ≡ answered (sum_outcome 64 f k g l) }
 {
-    combined(Operation::Sum, f, k, g, l)
+    combined::<Sum>(f, k, g, l)
 }
 
 pub fn difference(f: [u64; 17], k: usize, g: [u64; 17], l: usize) -> ChainAnswer
     ensures { result ≡ answered (difference_outcome 64 f k g l) }
 {
-    combined(Operation::Difference, f, k, g, l)
+    combined::<Difference>(f, k, g, l)
 }
 
 // Refused 15 where the trimmed lengths add over 16.
@@ -68,7 +64,7 @@ pub fn product(f: [u64; 17], k: usize, g: [u64; 17], l: usize) -> ChainAnswer
     let g_kept = chain_arrays::kept(g, l);
     let f_trimmed = chain_arrays::trimmed_length(f_kept, 0);
     let g_trimmed = chain_arrays::trimmed_length(g_kept, 0);
-    if LONGEST_PRODUCT < f_trimmed + g_trimmed {
+    if LONGEST < f_trimmed + g_trimmed {
         return refusal(15);
     }
     accepted(chain_values::product(f_kept, g_kept))
@@ -89,7 +85,7 @@ pub fn shift(f: [u64; 17], k: usize) -> ShiftAnswer
     }
     let mut shifted = chain_arrays::kept(f, k);
     let crossing = chain_arrays::crossed(shifted[0], shifted[1]);
-    chain_arrays::shift_part(Operation::Sum, &mut shifted);
+    chain_arrays::shift_part::<Sum>(&mut shifted);
     ShiftAnswer {
         number: 0,
         place: 0,

@@ -317,11 +317,9 @@ fn element(a: &[u64], m: usize) -> u64
     requires m_bound { m < 17 }
     ensures { result ≡ element_from 0 a.now m % 2 ^ 64 }
 {
-    let mut total = 0;
-    let mut j = 0;
-    while j < a.len() {
-        total = std::num::wrapping_add_u64(total, word::times(a[j], onto(j, m)));
-        j += 1;
+    let mut total: u64 = 0;
+    for (j, coefficient) in a.iter().enumerate() {
+        total = total.wrapping_add(word::times(*coefficient, onto(j, m)));
     }
     total
 }
@@ -332,10 +330,8 @@ fn elements(a: &[u64]) -> [u64; 17]
     ensures { result ≡ row 17 (words 64 (from_coefficients a.now)) }
 {
     let mut r = chain_arrays::zeros();
-    let mut m = 0;
-    while m < 17 {
+    for m in 0..17 {
         r[m] = element(a, m);
-        m += 1;
     }
     r
 }

@@ -61,7 +61,7 @@ use Rattle.plan.proofs.Keeping.{cost-after, refusal-after}
 use Rattle.plan.proofs.Accepting.{fill-accepted, refused_alters_nothing}
 use Rattle.plan.proofs.Sharing.{after-add, length-points, point_at, shared}
 use Rattle.plan.specs.Calls.{Call, written, plan_left, points_of}
-use Rattle.reason.specs.declared.ReasonAnswer.{ReasonAnswer}
+use Rattle.reason.specs.Answer.{ReasonAnswer}
 use Rattle.reason.specs.RowTrees.{row_tree}
 use Rattle.reason.specs.Reasons.{Stays, Reason}
 use Rattle.reason.specs.Explaining.{refusing, explaining, Explaining, not-counted, no_operator, operator}

@@ -13,7 +13,7 @@ ghost use Rattle.fold.specs.Folding.{fold_power};
 ghost use Rattle.fold_operands.specs.Operands.{One, Folds};
 
 use chain::ChainAnswer;
-use chain_arrays::{Operation, accepted, word_by_word};
+use chain_arrays::{Power, accepted, word_by_word};
 use fold_operands::{append, first_element, kind, length_of, put_constant, put_sum};
 use fold_rows::product_rows;
 use plan_rows::kinds::{CONSTANT, LITERAL_POWER, PRODUCT_CHAIN, SUM_CHAIN};
@@ -43,7 +43,7 @@ fn fold_high_power(plan: &mut [u64], first: usize, end: usize, n: u64) -> usize
     let k = length_of(plan, root);
     let f = fold_rows::elements(plan, root);
     if root_kind == PRODUCT_CHAIN {
-        let powers = word_by_word(Operation::Power, product_rows::with_ones(f, k), [n; 17]);
+        let powers = word_by_word::<Power>(product_rows::with_ones(f, k), [n; 17]);
         product_rows::put_product(plan, first, powers);
         return first + 1;
     }

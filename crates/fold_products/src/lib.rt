@@ -15,7 +15,7 @@ ghost use Rattle.fold_rows.specs.Standing.{placed, no_span};
 ghost use Rattle.fold_operands.specs.OperandRows.{sum_in, product_in};
 ghost use Rattle.fold_operands.specs.Operands.{Two, FoldsBoth};
 
-use chain_arrays::Operation;
+use chain_arrays::Product;
 use fold_factors::{are_products, are_sums, filled, has_zero};
 use fold_operands::{append, is_constant, length_of, put_constant, put_sum};
 use fold_rows::{moved_rows, product_rows};
@@ -53,11 +53,7 @@ fn put_product_of_products(plan: &mut [u64], r: usize, a: usize, b: usize)
 {
     let f = filled(plan, a);
     let g = filled(plan, b);
-    product_rows::put_product(
-        plan,
-        r,
-        chain_arrays::word_by_word(Operation::Product, f, g),
-    );
+    product_rows::put_product(plan, r, chain_arrays::word_by_word::<Product>(f, g));
 }
 
 // Constants 1 and 0 first, then sum chains, then product chains; anything else stays a row.

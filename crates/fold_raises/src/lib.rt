@@ -7,7 +7,7 @@ ghost use Rattle.plan.specs.Measures.{plan_length, most_rows};
 ghost use Rattle.fold.specs.Folding.{fold_raise};
 ghost use Rattle.fold_operands.specs.Operands.{Two, FoldsBoth};
 
-use chain_arrays::{Operation, word_by_word};
+use chain_arrays::{Power, word_by_word};
 use fold_operands::{append, first_element, kind};
 use fold_rows::product_rows;
 use plan_rows::kinds::{CONSTANT, PRODUCT_CHAIN, RAISE};
@@ -27,7 +27,7 @@ pub fn fold_raise(plan: &mut [u64], left: usize, middle: usize, end: usize) -> u
         if exponent < PRODUCT_CHAIN {
             let c = first_element(plan, base_root);
             let f = fold_rows::elements(plan, exponent_root);
-            product_rows::put_product(plan, left, word_by_word(Operation::Power, [c; 17], f));
+            product_rows::put_product(plan, left, word_by_word::<Power>([c; 17], f));
             return left + 1;
         }
     }

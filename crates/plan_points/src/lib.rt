@@ -8,7 +8,7 @@ ghost use Rattle.plan.specs.Row.{kind, word_a, word_b, is_chain};
 ghost use Rattle.plan.specs.Plan.{sound};
 ghost use Rattle.plan.specs.Points.{row_value, root_value, shifted_row, shifted_plan};
 
-use chain_arrays::{Operation, shift_part};
+use chain_arrays::{Product, Sum, shift_part};
 use plan::{ELEMENTS_START, ROW_WORDS};
 use plan_rows::kinds::{PRODUCT_CHAIN, SUM_CHAIN};
 use plan_rows::row;
@@ -60,11 +60,11 @@ fn shift_row(row: &mut [u64])
     let kind = row[0];
     let end = ELEMENTS_START + (1 + row[1] as usize);
     if kind == SUM_CHAIN {
-        shift_part(Operation::Sum, &mut row[ELEMENTS_START..end]);
+        shift_part::<Sum>(&mut row[ELEMENTS_START..end]);
         return;
     }
     if kind == PRODUCT_CHAIN {
-        shift_part(Operation::Product, &mut row[ELEMENTS_START..end]);
+        shift_part::<Product>(&mut row[ELEMENTS_START..end]);
     }
 }
 

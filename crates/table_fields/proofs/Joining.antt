@@ -1,20 +1,18 @@
 -- Writes one behind the other: two are one write of both texts, the buffer stays as long, and what stands in front of the next place.
-use mathlib.Core.Path.{◌≡◌, refl, sym, ap, ap₂, ◌∙◌, subst}
-use mathlib.Core.List.{List, [], ◌∷◌, ◌++◌, append_assoc}
-use Prim.Native.Nat.{ℕ, ◌+◌, ◌≤◌, ◌<◌}
+use mathlib.Core.Path.{◌≡◌, sym, ap, ap₂, ◌∙◌, subst}
+use mathlib.Core.List.{List, [], ◌++◌, append_assoc}
+use Prim.Native.Nat.{ℕ, ◌+◌, ◌≤◌}
 use native.Mathlib.Nat.{add-zero, zero-add}
-use native.Mathlib.Numerals.{add-one}
 use native.Mathlib.Omega.{arith}
-use lib.ListN.{length, take, drop, set, length-append, length-drop, take-append-drop}
-use lib.Seq.{length-take-le, take_at, drop-append-add, drop-drop, set_split}
+use lib.ListN.{length, take, drop, length-append, length-drop, take-append-drop}
+use lib.Seq.{length-take-le, take_at, drop-append-add, drop-drop}
 use Rattle.table_fields.specs.Writing.{Wrote}
+use Rattle.table_fields.specs.Writer.{Writes}
+use Rattle.table_fields.specs.declared.writer.Writer.{Writer}
 
--- ---- a write of no byte, of one byte, and of a text that is known under another name
+-- ---- a write of no byte, and of a text that is known under another name
 pub wrote_nothing : (l : List ℕ) (at : ℕ) → Wrote l at [] at l
 wrote_nothing l at = record { bytes = sym (ap (λ n. take at l ++ drop n l) (add-zero at) ∙ take-append-drop at l); next = omega arith }
-
-pub wrote_byte : (l : List ℕ) (at byte : ℕ) → at < length l → Wrote l at (byte ∷ []) (at + 1) (set l at byte)
-wrote_byte l at byte h = record { bytes = set_split l at byte h ∙ ap (λ n. take at l ++ byte ∷ drop n l) (sym (add-one at)); next = refl }
 
 pub wrote_same : {l s t m : List ℕ} {at r : ℕ} → s ≡ t → Wrote l at s r m → Wrote l at t r m
 wrote_same {l} {m = m} {at} {r} e w = subst (λ x. Wrote l at x r m) e w
@@ -65,3 +63,14 @@ joined {l} {s} {t} {m} {n} {at} {r} {q} h w v = record {
   where
     both : at + length s + length t ≡ at + length (s ++ t)
     both = omega (arith, length-append s t)
+
+-- ---- a writer
+pub written_as : {w v : Writer} {s t : List ℕ} → s ≡ t → Writes w s v → Writes w t v
+written_as e h = record { same_buffer = h.same_buffer; same_length = h.same_length; wrote = wrote_same e h.wrote }
+
+pub both_written : {w v u : Writer} {s t : List ℕ} → w.at ≤ length w.out.now → Writes w s v → Writes v t u → Writes w (s ++ t) u
+both_written room h k = record {
+  same_buffer = k.same_buffer ∙ h.same_buffer;
+  same_length = k.same_length ∙ h.same_length;
+  wrote = joined room h.wrote k.wrote;
+}

@@ -10,7 +10,7 @@ use lib.Dec.{eqb}
 use lib.ListN.{length}
 use lib.Seq.{drop-length}
 use Rattle.plan.specs.Measures.{plan_length}
-use Rattle.plan.specs.declared.CostAnswer.{CostAnswer}
+use Rattle.plan.specs.Answers.{CostAnswer}
 use Rattle.plan.specs.Plan.{row_count, rows_from, first_rows, sound, cost_of, cost, refusal}
 use Rattle.plan.specs.Filling.{point_cost, points_for, point_values, filled, fill, cost_answer}
 use Rattle.plan.proofs.RowLaws.{cost-next}

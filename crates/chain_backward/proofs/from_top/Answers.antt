@@ -3,8 +3,8 @@ use Rattle.std.proofs.Common.{arith, le-ltb, lt-ltb}
 use Rattle.chain_backward.proofs.from_top.Goals as goal
 
 pub returns-then-k-gt-LONGEST : goal.returns-then-k-gt-LONGEST
-returns-then-k-gt-LONGEST c = rw (c.refusal.ensures, lt-ltb 16 c.args.k (omega arith))
+returns-then-k-gt-LONGEST g c = rw (c.refusal.ensures, lt-ltb 16 c.args.k (omega arith))
 
 pub returns : goal.returns
-returns c =
+returns g c =
     rw (c.accepted.ensures, c.shift_from_top.ensures, c.kept-shifted.ensures, le-ltb _ _ c.if-k-gt-LONGEST.false)

@@ -22,13 +22,13 @@ returns-then-k-gt-LONGEST c = rw (c.refusal.ensures, lt-ltb 16 c.args.k (omega a
 pub returns-then-l-gt-LONGEST : goal.returns-then-l-gt-LONGEST
 returns-then-l-gt-LONGEST c = rw (c.refusal-then-l-gt-LONGEST.ensures, le-ltb 16 c.args.k (omega arith), lt-ltb 16 c.args.l (omega arith))
 
-pub returns-then-f_trimmed-g_trimmed-gt-LONGEST_PRODUCT : goal.returns-then-f_trimmed-g_trimmed-gt-LONGEST_PRODUCT
-returns-then-f_trimmed-g_trimmed-gt-LONGEST_PRODUCT c =
+pub returns-then-f_trimmed-g_trimmed-gt-LONGEST : goal.returns-then-f_trimmed-g_trimmed-gt-LONGEST
+returns-then-f_trimmed-g_trimmed-gt-LONGEST c =
     let args = c.args in
     let f-length : c.trimmed_length-f_trimmed.result ≡ length (given args.f args.k) - 1 = kept-length args.f args.k (search rules) c.trimmed_length-f_trimmed.ensures c.kept-f_kept.ensures in
     let g-length : c.trimmed_length-g_trimmed.result ≡ length (given args.g args.l) - 1 = kept-length args.g args.l (search rules) c.trimmed_length-g_trimmed.ensures c.kept-g_kept.ensures in
     let over : 16 < (length (given args.f args.k) - 1) + (length (given args.g args.l) - 1) = omega arith in
-    rw (c.refusal-then-f_trimmed-g_trimmed-gt-LONGEST_PRODUCT.ensures, le-ltb _ _ c.if-k-gt-LONGEST.false, le-ltb _ _ c.if-l-gt-LONGEST.false, lt-ltb _ _ over)
+    rw (c.refusal-then-f_trimmed-g_trimmed-gt-LONGEST.ensures, le-ltb _ _ c.if-k-gt-LONGEST.false, le-ltb _ _ c.if-l-gt-LONGEST.false, lt-ltb _ _ over)
 
 pub returns : goal.returns
 returns c =

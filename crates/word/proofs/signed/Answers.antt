@@ -1,9 +1,10 @@
--- `signed` meets its contract: each half of the words is read as `signed` says, and the difference taken in the upper half fits.
-use Rattle.word.proofs.SignedWords.{read_low, read_high}
+-- `signed` reads the word as the library's cast does.
+use Rattle.std.proofs.Common.{◌∙◌, w64}
+use mir.ValLaws.{to_z-of_z}
+use Rattle.word.proofs.SignedWords.{read}
 use Rattle.word.proofs.signed.Goals as goal
 
-pub returns-then-word-lt-NEGATIVE : goal.returns-then-word-lt-NEGATIVE
-returns-then-word-lt-NEGATIVE c = read_low c.args.word c.if-word-lt-NEGATIVE.true
-
 pub returns : goal.returns
-returns c = read_high c.args.word c.if-word-lt-NEGATIVE.false c.ranges.word.fits
+returns c =
+    let cast = c.cast_signed in
+    to_z-of_z w64 cast.result (record { sfits = cast.type_inv }) ∙ cast.ensures ∙ read c.args.word c.ranges.word.fits
