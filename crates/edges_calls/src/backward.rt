@@ -36,8 +36,12 @@ pub fn step(stack: Stack, letter: u8) -> Stack {
     let f = stack.second;
     let g = stack.top;
     match letter {
-        b'a' => stack.with_both(chain_backward::backward_sum(f.elements, f.length, g.elements, g.length)),
-        b't' => stack.with_both(chain_backward::backward_product(f.elements, f.length, g.elements, g.length)),
+        b'a' => stack.with_both(chain_backward::backward_sum(
+            f.elements, f.length, g.elements, g.length,
+        )),
+        b't' => stack.with_both(chain_backward::backward_product(
+            f.elements, f.length, g.elements, g.length,
+        )),
         b'I' => stack.with_top(inverse_shifted(g)),
         b'i' => stack.with_top(backward_inverse_shifted(g)),
         b'e' => stack.with_top(backward_shifted(g)),

@@ -140,7 +140,9 @@ fn step(stack: Stack, token: &[u8]) -> Stack {
     let g = stack.top;
     match token {
         [b'+'] => stack.with_both(chain_calls::sum(f.elements, f.length, g.elements, g.length)),
-        [b'-'] => stack.with_both(chain_calls::difference(f.elements, f.length, g.elements, g.length)),
+        [b'-'] => stack.with_both(chain_calls::difference(
+            f.elements, f.length, g.elements, g.length,
+        )),
         [b'*'] => stack.with_both(chain_calls::product(f.elements, f.length, g.elements, g.length)),
         [b'E'] => stack.with_top(shifted(g)),
         [b'T'] => stack.with_top(chain_calls::trim(g.elements, g.length)),
@@ -171,7 +173,11 @@ pub fn print(rt: &impl Print, name: &str, f: ChainAnswer) -> io::Result<()> {
     };
     let length = f.length;
     let (held, rest) = f.elements.split_at(length.min(16) + 1);
-    println!(rt; "{name}\t{judgement} {length} {} {}", List(held), clean(rest))
+    println!(rt;
+        "{name}\t{judgement} {length} {} {}",
+        List(held),
+        clean(rest)
+    )
 }
 
 // number place word: the present value as a call answers it
@@ -219,5 +225,9 @@ pub fn sequence(rt: &impl Print, name: &str, body: &[u8]) -> io::Result<()> {
 pub fn list(rt: &impl Print, name: &str, body: &[u8]) -> io::Result<()> {
     let words = words::list::<MOST_LISTED>(body);
     let count = words::count(body).min(MOST_LISTED);
-    print(rt, name, chain_coefficients::from_coefficients(&words[..count]))
+    print(
+        rt,
+        name,
+        chain_coefficients::from_coefficients(&words[..count]),
+    )
 }

@@ -28,7 +28,11 @@ fn print_tree(rt: &impl Print, tree: &[u64; LENT_WORDS]) -> io::Result<()> {
     let counted = tree[0];
     let end = 1 + 2 * (counted as usize).min(MOST_NODES);
     let nodes = Nodes(&tree[1..end]);
-    println!(rt; "{counted}: {nodes} {} {}", clean(&tree[end..TREE_WORDS]), kept(tree, TREE_WORDS))
+    println!(rt;
+        "{counted}: {nodes} {} {}",
+        clean(&tree[end..TREE_WORDS]),
+        kept(tree, TREE_WORDS)
+    )
 }
 
 // The case says how many words are lent, or nothing. Of a refused formula it is told whether all words stayed.
