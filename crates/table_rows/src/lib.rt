@@ -8,7 +8,6 @@ ghost use Rattle.plan.specs.Plan.{row_count, refusal};
 ghost use Rattle.table_fields.specs.Writing.{Wrote};
 ghost use Rattle.table_progress.specs.Printed.{TextsWithin, row_prints, rows_print};
 
-use plan_rows::kinds::SUM;
 use plan_rows::row;
 
 // What row r prints.
@@ -20,12 +19,11 @@ fn write_row(out: &mut [u8], at: usize, formula: &[u8], plan: &[u64], r: usize) 
     ensures wrote { Wrote out.old at (row_prints formula.now plan.now r) result out.new }
     ensures upper_bound { result ≤ at + 1164 }
 {
-    let words = row(plan, r);
-    if words[0] < SUM {
+    let Some(reason) = reason_call::row_reason(plan, r) else {
         return at;
-    }
+    };
+    let words = row(plan, r);
     let cost = plan_costs::row_cost(words);
-    let reason = reason_call::row_reason(plan, r);
     table_row_lines::write_row_line(out, at, formula, r as u64, words, cost, reason)
 }
 
@@ -38,11 +36,8 @@ pub fn write_rows(out: &mut [u8], at: usize, formula: &[u8], plan: &[u64]) -> us
 {
     let count = plan[0] as usize;
     let mut reached = at;
-    let mut r = 0;
-    while r < count {
-        let next = write_row(out, reached, formula, plan, r);
-        reached = next;
-        r += 1;
+    for r in 0..count {
+        reached = write_row(out, reached, formula, plan, r);
     }
     reached
 }

@@ -1,4 +1,4 @@
-use mathlib.Core.Path.{◌≡◌, ap}
+use mathlib.Core.Path.{◌≡◌, refl, ap}
 use native.Mathlib.Omega.{arith}
 use Rattle.plan.specs.Plan.{row_count}
 use Rattle.plan.proofs.Accepting.{accepted}
@@ -14,34 +14,25 @@ bounds-plan-0 c =
 
 pub loop-r-init : goal.loop-r-init
 unfolding rows_print
-loop-r-init c =
+loop-r-init c = record { in_order = omega arith; length_kept = refl; wrote = wrote_nothing c.args.out.now c.args.at }
+
+pub write_row-reached-requires-clause-at_in_bounds : goal.write_row-reached-requires-clause-at_in_bounds
+write_row-reached-requires-clause-at_in_bounds c =
     let p = c.args.plan.now in
-    (omega arith, (sound-count p (accepted p c.requires.plan_value).1).1, omega arith, omega arith, wrote_nothing c.args.out.now c.args.at)
-
-pub write_row-next-requires : goal.write_row-next-requires
-write_row-next-requires c =
-    record { plan_value = c.requires.plan_value; texts_within = c.requires.texts_within; r_bound = omega arith; at_in_bounds = omega arith }
-
-pub loop-r-smaller : goal.loop-r-smaller
-loop-r-smaller c = omega arith
+    omega (arith, sound-count p (accepted p c.requires.plan_value).1)
 
 pub loop-r-preserved : goal.loop-r-preserved
 loop-r-preserved c =
     let turn = c.loop-r in
-    let args = c.args in (
-      omega arith,
-      omega arith,
-      omega arith,
-      omega arith,
-      row_next args.formula.now args.plan.now turn.r (omega arith) turn.invariant.4 c.write_row-next.ensures.wrote,
-    )
-
-pub shape_of-out : goal.shape_of-out
-shape_of-out c = omega arith
+    let args = c.args in record {
+      in_order = omega arith;
+      length_kept = omega arith;
+      wrote = row_next args.formula.now args.plan.now turn.r (omega arith) turn.invariant.wrote c.write_row-reached.ensures.wrote;
+    }
 
 pub returns : goal.returns
 returns c =
     let turn = c.loop-r in
     let args = c.args in
     let all : turn.r ≡ row_count args.plan.now = omega arith in
-    wrote_same (ap (rows_print args.formula.now args.plan.now) all) turn.invariant.4
+    wrote_same (ap (rows_print args.formula.now args.plan.now) all) turn.invariant.wrote
