@@ -47,7 +47,7 @@ use Rattle.fold.proofs.Origins.{root_first, root_end, rows_come}
 use Rattle.fold.proofs.RowMeaning.{plan_root}
 use Rattle.fold.proofs.Compiled as Compiled
 use Rattle.fold.specs.OneChain.{OneSum, SameChain}
-use Rattle.fold.specs.declared.CompileAnswer.{CompileAnswer}
+use Rattle.fold.specs.Answer.{CompileAnswer}
 use Rattle.fold.specs.Compiling.{Compiling, too_short, refused, accepted}
 use Rattle.plan.specs.Row.{kind, first_byte, end_byte, between, all_zero}
 use Rattle.plan.specs.Plan as Plan

@@ -66,7 +66,7 @@ use Rattle.fold.specs.Layout.{plan_words}
 use Rattle.fold.proofs.Compiled as Compiled
 use Rattle.fold.specs.OneChain.{OneSum, SameChain}
 use Rattle.fold.specs.RowSpans.{Ordered, SameRow, text_of}
-use Rattle.fold.specs.declared.CompileAnswer.{CompileAnswer}
+use Rattle.fold.specs.Answer.{CompileAnswer}
 use Rattle.fold.specs.Compiling.{Compiling, too_short, refused, accepted}
 use Rattle.fold.proofs.Promise as Promise
 use Rattle.fold.proofs.Promise.{compiling_unique}
