@@ -1,12 +1,17 @@
 -- `trim` answers the trimmed chain of the words up to the given length.
-use native.Mathlib.Omega.{arith}
-use borrow.Author.Tests.{lt-ltb, le-ltb}
-use borrow.Author.Rules.{rules}
+use Rattle.std.proofs.Common.{le-ltb, lt-ltb, rules}
+use Rattle.std.proofs.lemmas.Result.{err_from_is_err_and}
 use Rattle.chain.proofs.Calls.{kept-trimmed}
 use Rattle.chain_calls.proofs.trim.Goals as goal
 
-pub returns-then-k-gt-LONGEST : goal.returns-then-k-gt-LONGEST
-returns-then-k-gt-LONGEST c = rw (c.refusal.ensures, lt-ltb 16 c.args.k (omega arith))
+pub returns-in_err-words : goal.returns-in_err-words
+returns-in_err-words c =
+    let left = err_from_is_err_and c.from_residual.result c.from_residual.ensures.1 in
+    let long = c.in_err-words.ensures in
+    rw (left.1, left.2, long.1, lt-ltb 16 c.args.f.length long.0)
 
 pub returns : goal.returns
-returns c = rw (c.accepted.ensures, c.kept-kept.ensures, le-ltb _ _ c.if-k-gt-LONGEST.false, kept-trimmed c.args.f c.args.k (search rules))
+returns c =
+    let f = c.args.f in
+    let words = c.in_ok-words.ensures in
+    rw (c.accepted.ensures, words.1, le-ltb 16 f.length words.0, kept-trimmed f.elements f.length (search rules))
