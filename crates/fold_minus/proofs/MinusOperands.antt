@@ -5,7 +5,7 @@ use Rattle.word.specs.Word as Word
 use Rattle.chain.specs.Chain.{trimmed, row}
 use Rattle.chain.specs.SumChain.{difference}
 use Rattle.chain.specs.ProductChain as ProductChain
-use Rattle.chain.specs.declared.ChainAnswer.{ChainAnswer}
+use Rattle.chain.specs.Answer.{ChainAnswer}
 use Rattle.chain.specs.Answer.{answered, difference_outcome}
 use Rattle.plan.specs.Row as Row
 use Rattle.plan.specs.Row.{word_a, elements}

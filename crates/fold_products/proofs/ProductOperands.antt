@@ -13,7 +13,7 @@ use Rattle.chain.specs.SumChain.{product}
 use Rattle.chain.specs.ProductChain.{joint_product}
 use Rattle.chain.specs.ProductChain as ProductChain
 use Rattle.chain.specs.Answer.{given, answered, chain, product_outcome}
-use Rattle.chain.specs.declared.ChainAnswer.{ChainAnswer}
+use Rattle.chain.specs.Answer.{ChainAnswer}
 use Rattle.chain.proofs.Trimming.{length-trimmed}
 use Rattle.plan.specs.Row.{kind, word_a, elements}
 use Rattle.plan.specs.Plan.{row}

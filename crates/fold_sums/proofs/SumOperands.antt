@@ -9,7 +9,7 @@ use lib.ListN.{length}
 use borrow.Author.Tests.{ltb-true}
 use Rattle.plan.specs.Measures.{row_start}
 use Rattle.chain.specs.Chain.{trimmed}
-use Rattle.chain.specs.declared.ChainAnswer.{ChainAnswer}
+use Rattle.chain.specs.Answer.{ChainAnswer}
 use Rattle.chain.specs.Answer.{answered}
 use Rattle.plan.specs.Row as Row
 use Rattle.plan.specs.Row.{word_a, elements}
