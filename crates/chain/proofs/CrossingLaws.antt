@@ -15,10 +15,10 @@ use lib.Signed.{le_z, lt_z, ◌≤ℤ◌, ◌<ℤ◌, le_z_yes, lt_z_yes, clash_
 use Rattle.word.specs.Signed.{half, signed}
 use Rattle.word.proofs.SignedWords.{below_minus, signed_low, signed_high}
 use Rattle.word.proofs.WholeNumbers.{passed, failed}
-use Rattle.chain.specs.Chain.{value, rest, words, trimmed, row}
+use Rattle.chain.specs.Chain.{value, rest, words, trimmed, row, shift}
 use Rattle.chain.specs.SumChain.{sum_shift}
 use Rattle.chain.specs.Answer.{ChainAnswer, answered, chain, given, with_crossing, shift_answer}
-use Rattle.chain.specs.Crossing.{crossed_by, crossing}
+use Rattle.chain.specs.Crossing.{signed_step, crossed_by, crossing}
 use Rattle.chain.proofs.Trimming.{row-trimmed}
 use Rattle.chain.proofs.Calls.{shift_trims}
 
@@ -146,3 +146,11 @@ shift-done f k long short {kept} {shifted} keeps fits shifts trims crosses =
     rw (le-ltb 16 k short)
     (ap₂ with_crossing (trims ∙ ap (λ g. answered (chain (trimmed 0 g))) (shifts ∙ ap (λ g. words 64 (sum_shift g)) keeps) ∙ ap (λ g. answered (chain g)) (shift_trims 64 f k long))
     (crosses ∙ crossing-kept 64 f k keeps fits))
+
+-- One shift of a chain of words: the exact value after it is the first element then and 2^w times the crossing.
+pub exact_shift : (w : ℕ) (f : List ℕ) → ((i : ℕ) → get_or f i 0 < 2 ^ w)
+    → pos (value 0 f) +ℤ signed_step w f ≡ pos (value 0 (words w (sum_shift f))) +ℤ pos (2 ^ w) *ℤ crossing w f
+unfolding shift
+exact_shift w [] fits = ap pos (omega arith)
+exact_shift w (a ∷ []) fits = rw (mod-eq_of_lt (fits 0)) (ap pos (omega arith))
+exact_shift w (a ∷ b ∷ f) fits = exact_words w a b (fits 0) (fits 1)
