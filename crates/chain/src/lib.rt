@@ -6,6 +6,7 @@ ghost use Rattle.std.specs.Prelude.{◌≡◌};
 ghost use Rattle.chain.specs.Answer.{refusal_number};
 
 // A chain of a length: its elements from the first word up to that of its length. Words past them are not read, and 0 in a chain that is answered.
+// Kept: a length beside an array, since 01 has chains as arrays of 17 words by value, and there is no heap for a list.
 #[derive(Clone, Copy, Debug, PartialEq, Eq)]
 pub struct Chain {
     pub length: usize,

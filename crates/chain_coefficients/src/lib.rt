@@ -11,6 +11,7 @@ use chain::{Chain, Refusal};
 use chain_arrays::accepted;
 
 // Entry 17 * j + m is m! * S(j, m), j and m from 0 to 16: how many ways there are to map j things onto m.
+// Kept: 01 asks for the numbers in "a table of 289 numbers".
 const ONTO: [u64; 289] = [
     1,
     0,

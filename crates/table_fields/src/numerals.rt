@@ -16,10 +16,7 @@ pub fn number_up_to(field: &[u8], most: u64) -> Option<u64>
     if number.at < field.len() {
         return None;
     }
-    if number.over {
-        return None;
-    }
-    let value = number.value;
+    let value = number.value?;
     if most < value {
         return None;
     }

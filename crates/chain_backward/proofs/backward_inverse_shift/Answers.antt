@@ -1,14 +1,7 @@
 -- `backward_inverse_shift` steps the words up to the given length from the bottom up with differences, and trims.
-use Rattle.std.proofs.Common.{ℕ, get_or, ◌∙◌, w64, Fits, rules, lt-ltb}
-use Rattle.std.proofs.lemmas.Result.{err_from_is_err_and}
+use Rattle.std.proofs.Common.{ℕ, get_or, ◌∙◌, w64, Fits, rules}
 use Rattle.chain_backward.proofs.Steps.{backward_inverse_shift-done, within}
 use Rattle.chain_backward.proofs.backward_inverse_shift.Goals as goal
-
-pub returns-in_err-shifted : goal.returns-in_err-shifted
-returns-in_err-shifted c =
-    let left = err_from_is_err_and c.from_residual.result c.from_residual.ensures.1 in
-    let long = c.in_err-shifted.ensures in
-    rw (left.1, left.2, long.1, lt-ltb 16 c.args.f.length long.0)
 
 pub returns : goal.returns
 returns c =

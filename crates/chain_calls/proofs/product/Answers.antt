@@ -1,21 +1,8 @@
 -- `product` answers the trimmed product of the trimmed inputs, or refuses by their trimmed lengths.
 use Rattle.std.proofs.Common.{◌≡◌, ◌+◌, ◌-◌, ◌<◌, ◌≤◌, length, arith, le-ltb, lt-ltb, rules}
-use Rattle.std.proofs.lemmas.Result.{err_from_is_err_and}
 use Rattle.chain.specs.Answer.{given}
 use Rattle.chain.proofs.Calls.{kept-length, length-given, product_trims}
 use Rattle.chain_calls.proofs.product.Goals as goal
-
-pub returns-in_err-f_words : goal.returns-in_err-f_words
-returns-in_err-f_words c =
-    let left = err_from_is_err_and c.from_residual.result c.from_residual.ensures.1 in
-    let long = c.in_err-f_words.ensures in
-    rw (left.1, left.2, long.1, lt-ltb 16 c.args.f.length long.0)
-
-pub returns-in_err-g_words : goal.returns-in_err-g_words
-returns-in_err-g_words c =
-    let left = err_from_is_err_and c.from_residual-in_err-g_words.result c.from_residual-in_err-g_words.ensures.1 in
-    let long = c.in_err-g_words.ensures in
-    rw (left.1, left.2, long.1, le-ltb 16 c.args.f.length c.in_ok-f_words.ensures.0, lt-ltb 16 c.args.g.length long.0)
 
 pub overflow_add-trimmed_length : goal.overflow_add-trimmed_length
 overflow_add-trimmed_length c =

@@ -1,15 +1,8 @@
 -- `shift` answers the trimmed shift of the trimmed input, and how its first element crossed.
-use Rattle.std.proofs.Common.{◌∙◌, get_or, w64, Fits, lt-ltb, rules}
+use Rattle.std.proofs.Common.{◌∙◌, get_or, w64, Fits, rules}
 use mir.ValLaws.{to_z-of_z}
-use Rattle.std.proofs.lemmas.Result.{err_from_is_err_and}
 use Rattle.chain.proofs.CrossingLaws.{shift-done}
 use Rattle.chain_calls.proofs.shift.Goals as goal
-
-pub returns-in_err-words : goal.returns-in_err-words
-returns-in_err-words c =
-    let left = err_from_is_err_and c.from_residual.result c.from_residual.ensures.1 in
-    let long = c.in_err-words.ensures in
-    rw (left.1, left.2, long.1, lt-ltb 16 c.args.f.length long.0)
 
 pub returns : goal.returns
 returns c =
