@@ -1,16 +1,16 @@
 // Chains as arrays of 17 words, and as lent slices that change in place: 0 past the elements, trimmed, and two of them word by word.
-// Lengths are checked by the callers in `chain_calls` and `chain_coefficients`; products and powers are in `chain_values`.
+// A chain that is given to a call is checked in `given`; products and powers are in `chain_values`, the calls in `chain_calls` and `chain_coefficients`.
 #![tactic(auto)]
 
-ghost use Rattle.std.specs.Prelude.{◌≡◌, ◌+◌, ◌-◌, ◌≤◌, [], length, take};
+ghost use Rattle.std.specs.Prelude.{◌≡◌, ◌+◌, ◌-◌, ◌<◌, ◌≤◌, [], length, take, MatchResult};
 ghost use Rattle.word.specs.Signed.{signed};
 ghost use Rattle.chain.specs.Chain.{shift_from_top, trimmed, row};
 ghost use Rattle.chain.specs.Crossing.{crossed_by};
-ghost use Rattle.chain.specs.Answer.{answered, refused, chain};
+ghost use Rattle.chain.specs.Answer.{answered, chain, as_chain_answer};
 ghost use Rattle.chain_arrays.specs.Operations as Operations;
 ghost use Rattle.chain_arrays.specs.Operations.{worked, word_by_word, shifted_by};
 
-use chain::ChainAnswer;
+use chain::{Chain, Refusal};
 
 // The longest chain.
 pub const LONGEST: usize = 16;
@@ -83,9 +83,21 @@ pub fn kept(f: [u64; 17], last: usize) -> [u64; 17]
     r
 }
 
+// The words of a chain that is given to a call: up to its length, 0 past it. A length over 16 is refused.
+pub fn given(f: Chain) -> Result<[u64; 17], Refusal>
+    ensures { MatchResult result
+        (λ words. (f.length ≤ 16) × (words ≡ row 17 (take (f.length + 1) f.elements)))
+        (λ refusal. (16 < f.length) × (refusal ≡ Refusal.TooLong)) }
+{
+    if LONGEST < f.length {
+        return Err(Refusal::TooLong);
+    }
+    Ok(kept(f.elements, f.length))
+}
+
 // The index of the last word that is not the unit, or 0.
-pub fn trimmed_length(f: [u64; 17], unit: u64) -> usize
-    ensures { result ≡ length (trimmed unit f) - 1 }
+pub fn trimmed_length(f: &[u64], unit: u64) -> usize
+    ensures { result ≡ length (trimmed unit f.now) - 1 }
 {
     f.iter().rposition(|a| *a != unit).unwrap_or(0)
 }
@@ -144,26 +156,12 @@ pub fn lay(f: [u64; 17], part: &mut [u64])
     part.copy_from_slice(&f);
 }
 
-// A refusal with the constant 0.
-pub fn refusal(number: u64) -> ChainAnswer
-    ensures { result ≡ answered (refused number) }
-{
-    ChainAnswer {
-        number,
-        place: 0,
-        length: 0,
-        elements: zeros(),
-    }
-}
-
 // The chain of all 17 words, trimmed.
-pub fn accepted(elements: [u64; 17]) -> ChainAnswer
-    ensures { result ≡ answered (chain (trimmed 0 elements)) }
+pub fn accepted(elements: [u64; 17]) -> Chain
+    ensures { as_chain_answer (Ok result) ≡ answered (chain (trimmed 0 elements)) }
 {
-    ChainAnswer {
-        number: 0,
-        place: 0,
-        length: trimmed_length(elements, 0),
+    Chain {
+        length: trimmed_length(&elements, 0),
         elements,
     }
 }

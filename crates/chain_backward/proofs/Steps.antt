@@ -4,11 +4,10 @@ use native.Mathlib.Nat.{mod-mod}
 use Rattle.word.specs.Word as Word
 use Rattle.word.proofs.Modulo.{outward}
 use Rattle.word.proofs.Ring as Ring
-use Rattle.chain.specs.declared.ChainAnswer.{ChainAnswer}
 use Rattle.chain.specs.Chain.{shift, shift_from_top, words, trimmed, row}
 use Rattle.chain.specs.BackwardChain.{converted}
 use Rattle.chain.specs.BackwardChain as BackwardChain
-use Rattle.chain.specs.Answer.{answered, refused, chain, given, unless_long}
+use Rattle.chain.specs.Answer.{ChainAnswer, answered, refused, chain, given, unless_long}
 use Rattle.chain.specs.BackwardAnswer.{changed, inverse_shift_outcome, backward_shift_outcome, backward_inverse_shift_outcome, to_backward_outcome, to_forward_outcome}
 use Rattle.chain.proofs.Rows.{words-whole}
 use Rattle.chain.proofs.Shifting.{length_shift, length-from_top, words-shift, words-from_top}

@@ -5,12 +5,13 @@
 ghost use Rattle.std.specs.Prelude.{◌≡◌, ◌%◌, ◌^◌, ◌<◌, length};
 ghost use Rattle.chain.specs.Chain.{row, words};
 ghost use Rattle.chain.specs.Coefficients.{onto, element_from, from_coefficients};
-ghost use Rattle.chain.specs.Answer.{answered, coefficients_outcome};
+ghost use Rattle.chain.specs.Answer.{as_chain_answer, answered, coefficients_outcome};
 
-use chain::ChainAnswer;
-use chain_arrays::{accepted, refusal};
+use chain::{Chain, Refusal};
+use chain_arrays::accepted;
 
 // Entry 17 * j + m is m! * S(j, m), j and m from 0 to 16: how many ways there are to map j things onto m.
+// Kept: 01 asks for the numbers in "a table of 289 numbers".
 const ONTO: [u64; 289] = [
     1,
     0,
@@ -336,12 +337,12 @@ fn elements(a: &[u64]) -> [u64; 17]
     r
 }
 
-// The trimmed chain of the polynomial a0 + a1 * i + .. in the index i. Over 17 coefficients are refused 13.
-pub fn from_coefficients(a: &[u64]) -> ChainAnswer
-    ensures { result ≡ answered (coefficients_outcome 64 a.now) }
+// The trimmed chain of the polynomial a0 + a1 * i + .. in the index i. Over 17 coefficients are refused.
+pub fn from_coefficients(a: &[u64]) -> Result<Chain, Refusal>
+    ensures { as_chain_answer result ≡ answered (coefficients_outcome 64 a.now) }
 {
     if 17 < a.len() {
-        return refusal(13);
+        return Err(Refusal::TooManyCoefficients);
     }
-    accepted(elements(a))
+    Ok(accepted(elements(a)))
 }

@@ -1,10 +1,10 @@
--- Writes one behind the other: two are one write of both texts, the buffer stays as long, and what stands in front of the next place.
-use mathlib.Core.Path.{◌≡◌, sym, ap, ap₂, ◌∙◌, subst}
+-- Writes one behind the other: two are one write of both texts, and what stands in front of the next place.
+use mathlib.Core.Path.{◌≡◌, refl, sym, ap, ap₂, ◌∙◌, subst}
 use mathlib.Core.List.{List, [], ◌++◌, append_assoc}
 use Prim.Native.Nat.{ℕ, ◌+◌, ◌≤◌}
 use native.Mathlib.Nat.{add-zero, zero-add}
 use native.Mathlib.Omega.{arith}
-use lib.ListN.{length, take, drop, length-append, length-drop, take-append-drop}
+use lib.ListN.{length, take, drop, length-append, take-append-drop}
 use lib.Seq.{length-take-le, take_at, drop-append-add, drop-drop}
 use Rattle.table_fields.specs.Writing.{Wrote}
 use Rattle.table_fields.specs.Writer.{Writes}
@@ -39,17 +39,6 @@ module _ {l s m : List ℕ} {at r : ℕ} (w : Wrote l at s r m) where
       place : r + k ≡ length (take at l ++ s) + k
       place = omega (arith, w.next, length-append (take at l) s, length-take-le at l h)
 
-  pub wrote-length : at + length s ≤ length l → length m ≡ length l
-  wrote-length h =
-      ap length w.bytes
-      ∙ length-append (take at l) (s ++ drop (at + length s) l)
-      ∙ ap₂ ◌+◌ (length-take-le at l (omega arith)) (length-append s (drop (at + length s) l) ∙ ap (λ n. length s + n) (length-drop (at + length s) l))
-      ∙ omega arith
-
-  -- Room for more is still there behind it.
-  pub wrote_room : (k : ℕ) → at + length s + k ≤ length l → r + k ≤ length m
-  wrote_room k h = omega (arith, w.next, wrote-length (omega arith))
-
 -- ---- two writes, the second behind the first, are one
 pub joined : {l s t m n : List ℕ} {at r q : ℕ} → at ≤ length l → Wrote l at s r m → Wrote m r t q n → Wrote l at (s ++ t) q n
 joined {l} {s} {t} {m} {n} {at} {r} {q} h w v = record {
@@ -65,6 +54,9 @@ joined {l} {s} {t} {m} {n} {at} {r} {q} h w v = record {
     both = omega (arith, length-append s t)
 
 -- ---- a writer
+pub none_written : (w : Writer) → Writes w [] w
+none_written w = record { same_buffer = refl; same_length = refl; wrote = wrote_nothing w.out.now w.at }
+
 pub written_as : {w v : Writer} {s t : List ℕ} → s ≡ t → Writes w s v → Writes w t v
 written_as e h = record { same_buffer = h.same_buffer; same_length = h.same_length; wrote = wrote_same e h.wrote }
 

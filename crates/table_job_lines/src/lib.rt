@@ -74,6 +74,7 @@ fn write_point(writer: &mut Writer<'_>, index: u64, value: u64)
 }
 
 // A line for each word of a table, from index 0 on.
+// Kept: the buffer and its place come apart, since what `table_jobs` promises speaks of the lent buffer, of which a writer would hold a reference.
 pub fn write_points(out: &mut [u8], at: usize, table: &[u64]) -> usize
     requires { at + 42 * length table.now ≤ length out.old }
     ensures { Wrote out.old at (point_lines 0 table.now) result out.new }

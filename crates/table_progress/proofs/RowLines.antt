@@ -23,8 +23,9 @@ use Rattle.reason.specs.Reasons.{operand-stays, lengths-add, length-times, again
 use Rattle.reason.proofs.Numbers.{reason_of}
 use Rattle.reason.proofs.OneReason.{one_reason}
 use Rattle.reason.proofs.SoundRows.{row_has_reason, row_reason}
-use Rattle.table_fields.specs.Writing.{Wrote}
-use Rattle.table_fields.proofs.Joining.{wrote_nothing, wrote_same, joined}
+use Rattle.table_fields.specs.declared.writer.Writer.{Writer}
+use Rattle.table_fields.specs.Writer.{Writes}
+use Rattle.table_fields.proofs.Joining.{none_written, written_as, both_written}
 use Rattle.table.specs.Lines.{row_line}
 use Rattle.table.specs.Run.{RowsPrint, no_row, passed_over, explained}
 use Rattle.table_progress.specs.Printed.{TextsWithin, row_prints, rows_print}
@@ -93,17 +94,17 @@ module _ (formula p : List ℕ) (good : refusal p ≡ 0) where
         go true e = absurd (omega (arith, numbered reason, answered, by_kind true e))
         go false e = ltb-false (kind (row p r)) 3 e
 
-    pub nothing-written : 0 ≡ row_reason p r → (out : List ℕ) (at : ℕ) → Wrote out at (row_prints formula p r) at out
-    nothing-written none out at = wrote_same (sym (none-explained none)) (wrote_nothing out at)
+    pub nothing-written : 0 ≡ row_reason p r → (w : Writer) → Writes w (row_prints formula p r) w
+    nothing-written none w = written_as (sym (none-explained none)) (none_written w)
 
-    pub line-written : {x : Row} → x ≡ row p r → (reason : Reasons) → reason_number reason ≡ row_reason p r → {out out' : List ℕ} {at next : ℕ}
-        → Wrote out at (row_line formula r x (reason_number reason)) next out' → Wrote out at (row_prints formula p r) next out'
-    line-written same reason answered wrote =
+    pub line-written : {x : Row} → x ≡ row p r → (reason : Reasons) → reason_number reason ≡ row_reason p r → {w v : Writer}
+        → Writes w (row_line formula r x (reason_number reason)) v → Writes w (row_prints formula p r) v
+    line-written same reason answered line =
         let some = operates reason answered in
-        wrote_same
+        written_as
         (ap₂ (λ y k. row_line formula r y k) same (answered ∙ by_kind false (le-ltb (kind (row p r)) 3 some))
         ∙ sym (row-printed formula p r some (shown r h some) (shown r h some)))
-        wrote
+        line
 
   pub rows_said : (r : ℕ) → r ≤ row_count p → RowsPrint formula p r (rows_print formula p r)
   unfolding rows_print
@@ -129,8 +130,7 @@ module _ (formula p : List ℕ) (good : refusal p ≡ 0) where
 
 -- ---- as the code writes them
 -- What row r prints, behind what the rows before it print
-pub row_next : {l m n : List ℕ} {at reached next : ℕ} (formula p : List ℕ) (r : ℕ) → at ≤ length l
-    → Wrote l at (rows_print formula p r) reached m → Wrote m reached (row_prints formula p r) next n
-    → Wrote l at (rows_print formula p (r + 1)) next n
+pub row_next : {w v u : Writer} (formula p : List ℕ) (r : ℕ) → w.at ≤ length w.out.now
+    → Writes w (rows_print formula p r) v → Writes v (row_prints formula p r) u → Writes w (rows_print formula p (r + 1)) u
 unfolding rows_print
-row_next formula p r room before line = wrote_same (ap (rows_print formula p) (sym (add-one r))) (joined room before line)
+row_next formula p r room before line = written_as (ap (rows_print formula p) (sym (add-one r))) (both_written room before line)

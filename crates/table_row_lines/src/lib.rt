@@ -2,7 +2,7 @@
 // Which rows are printed, and what their reasons are, is for `table_rows`; `no` and `job` lines and points are in `table_job_lines`.
 #![tactic(auto)]
 
-ghost use Rattle.std.specs.Prelude.{◌≡◌, ◌∷◌, ◌++◌, ◌+◌, ◌≤◌, ◌<◌, length};
+ghost use Rattle.std.specs.Prelude.{◌≡◌, ◌∷◌, ◌++◌, ◌+◌, ◌≤◌, length};
 ghost use Rattle.plan.specs.Measures.{row_length, longest_text};
 ghost use Rattle.plan.specs.Row.{first_byte, end_byte, row_cost};
 ghost use Rattle.reason.specs.Answer.{reason_number};
@@ -11,7 +11,6 @@ ghost use Rattle.table.specs.Decimal.{decimal};
 ghost use Rattle.table.specs.Parts.{tab};
 ghost use Rattle.table.specs.Lines.{row_line};
 ghost use Rattle.table_fields.specs.Writer.{HasRoom, Writes};
-ghost use Rattle.table_fields.specs.Writing.{Wrote};
 
 use plan::SPAN_START;
 use reason::Reason;
@@ -59,29 +58,26 @@ fn write_numbers(writer: &mut Writer<'_>, number: u64, first: u64, end: u64, cos
 
 // The line of a row whose text stands in the formula.
 pub fn write_row_line(
-    out: &mut [u8],
-    at: usize,
+    writer: &mut Writer<'_>,
     formula: &[u8],
     number: u64,
     row: &[u64],
     cost: u64,
     reason: Reason,
-) -> usize
+)
     requires row_len { length row.now ≡ row_length }
     requires row_bound { first_byte row.now ≤ end_byte row.now }
     requires row_in_bounds { end_byte row.now ≤ length formula.now }
     requires row_bound_2 { end_byte row.now ≤ longest_text }
     requires cost_value { cost ≡ row_cost row.now }
-    requires at_in_bounds { at + 1164 ≤ length out.old }
-    ensures wrote { Wrote out.old at (row_line formula.now number row.now (reason_number reason)) result out.new }
-    ensures upper_bound { result ≤ at + 1164 }
+    requires room { HasRoom writer.old 1164 }
+    ensures wrote { Writes writer.old (row_line formula.now number row.now (reason_number reason)) writer.new }
+    ensures upper_bound { writer.new.at ≤ writer.old.at + 1164 }
 {
     let first = row[SPAN_START];
     let end = row[SPAN_START + 1];
-    let mut writer = Writer { out, at };
-    write_numbers(&mut writer, number, first, end, cost);
-    write_text(&mut writer, words(reason));
-    write_text(&mut writer, &formula[first as usize..end as usize]);
+    write_numbers(writer, number, first, end, cost);
+    write_text(writer, words(reason));
+    write_text(writer, &formula[first as usize..end as usize]);
     writer.byte(b'\n');
-    writer.at
 }

@@ -1,9 +1,6 @@
 -- Words read as signed numbers, over the width w: which number a word of the lower half is, and which a word of the upper half; their range and their words.
--- Then, at width 64, what the code computes is those numbers.
-use Rattle.std.proofs.Common.{◌≡◌, ℕ, zero, suc, ◌+◌, ◌-◌, ◌^◌, ◌<◌, ◌≤◌, Bool, true, false, T, ltb, ℤ, pos, negsuc, ◌-ℤ◌, neg_ℤ, ◌≤ℤ◌, refl, ap, ◌∙◌, not-suc-le-zero, pow-suc, arith, le→leb, pow_pos, w64, to_z, ltb-false, ltb-true, le-ltb, lt-ltb}
+use Rattle.std.proofs.Common.{◌≡◌, ℕ, zero, suc, ◌+◌, ◌-◌, ◌^◌, ◌<◌, ◌≤◌, Bool, true, false, T, ltb, ℤ, pos, negsuc, ◌-ℤ◌, neg_ℤ, ◌≤ℤ◌, refl, not-suc-le-zero, pow-suc, arith, le→leb, pow_pos, ltb-false, ltb-true, le-ltb, lt-ltb}
 use lib.Signed.{le_z}
-use mir.ValLaws.{to_z_pos}
-use Rattle.std.proofs.Math.Facts.{to_z-neg}
 use Rattle.word.specs.Signed.{half, signed, word_of}
 
 -- There are twice as many words as half of them.
@@ -51,9 +48,3 @@ signed_range w d some fits = by_halves w d (λ z. (neg_ℤ (pos (half w)) ≤ℤ
 -- The word of the number that a word is read as is that word.
 pub signed_word : (w d : ℕ) → d < 2 ^ w → word_of w (signed w d) ≡ d
 signed_word w d fits = by_halves w d (λ z. word_of w z ≡ d) fits (λ low. refl) (λ high. omega arith)
-
--- ---- at width 64: `to_z w64` is the number that bits are read as
-pub read : (d : ℕ) → d < 2 ^ 64 → to_z w64 d ≡ signed 64 d
-read d fits = by_halves 64 d (λ z. to_z w64 d ≡ z) fits
-    (λ low. to_z_pos w64 d low)
-    (λ high. ap (to_z w64) (omega arith) ∙ to_z-neg w64 (2 ^ 64 - suc d) (omega arith))

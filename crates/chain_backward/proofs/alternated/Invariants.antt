@@ -5,4 +5,4 @@ use Rattle.chain_backward.specs.Alternating.{alternated}
 use Rattle.chain_backward.proofs.alternated.Given as goal
 
 abbrev pub invariant-loop-i : goal.invariant-loop-i
-invariant-loop-i l = l.r ≡ row 17 (take l.i (words 64 (alternated 64 l.f)))
+invariant-loop-i l = l.elements ≡ row 17 (take l.i (words 64 (alternated 64 l.f.elements)))

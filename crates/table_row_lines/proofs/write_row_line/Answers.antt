@@ -31,11 +31,11 @@ returns c =
     let whole =
     both_written (omega arith) (both_written (omega arith) (both_written (omega arith) c.write_numbers.ensures.wrote reason) c.write_text-2.ensures)
     c.byte.ensures in
-    let line =
-    wrote_same
-    (ap₂ (λ k s. front c.args.number x k ++ tab ∷ reason_text (reason_number c.args.reason) ++ tab ∷ s ++ line_feed ∷ [])
-    c.requires.cost_value (sym (slice-part (first_byte x) (end_byte x) f)))
-    whole.wrote in record {
-      wrote = search rules;
+    record {
+      wrote =
+          written_as
+          (ap₂ (λ k s. front c.args.number x k ++ tab ∷ reason_text (reason_number c.args.reason) ++ tab ∷ s ++ line_feed ∷ [])
+          c.requires.cost_value (sym (slice-part (first_byte x) (end_byte x) f)))
+          whole;
       upper_bound = omega (arith, ap length c.words.ensures, reason_short (reason_number c.args.reason), length-take {A = ℕ});
     }

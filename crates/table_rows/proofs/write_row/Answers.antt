@@ -31,13 +31,13 @@ write_row_line-requires c =
       row_in_bounds = text.1;
       row_bound_2 = text.2;
       cost_value = c.row_cost-cost.ensures;
-      at_in_bounds = c.requires.at_in_bounds;
+      room = c.requires.room;
     }
 
 pub returns-in_default-clause-wrote : goal.returns-in_default-clause-wrote
 returns-in_default-clause-wrote c =
     let args = c.args in
-    nothing-written args.formula.now args.plan.now c.requires.plan_value args.r c.requires.r_bound c.in_default.ensures args.out.now args.at
+    nothing-written args.formula.now args.plan.now c.requires.plan_value args.r c.requires.r_bound c.in_default.ensures args.writer.now
 
 pub returns : goal.returns
 returns c =
