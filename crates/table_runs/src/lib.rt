@@ -107,6 +107,7 @@ impl ToolRun {
     }
 
     // All steps over some input, and what they print written.
+    // Kept: a `while`, since each step tells anew how far it came, and one that is not done ends the run.
     fn take<R: Print + Eprint>(&mut self, rt: &R, input: &[u8]) -> Result<(), Stop> {
         let mut left = input;
         while !left.is_empty() {
