@@ -10,12 +10,13 @@ ghost use Rattle.formula.specs.Tree.{Tree, span_of};
 ghost use Rattle.fold.specs.Folding.{fold};
 ghost use Rattle.fold.specs.Layout.{plan_words};
 
-use fold_operands::Pair;
+use chain::Chain;
+use fold_operands::{Pair, put_sum};
 use fold_sums::{Additive, fold_sum};
 use formula::{NUMBER, VARIABLE};
 use formula_read::SPANNED_TREE_WORDS;
 use plan::{PLAN_WORDS, PlanWords};
-use plan_rows::kinds::{DIFFERENCE, LITERAL_POWER, MINUS, PRODUCT, PRODUCT_CHAIN, SUM, SUM_CHAIN};
+use plan_rows::kinds::{DIFFERENCE, LITERAL_POWER, MINUS, PRODUCT, PRODUCT_CHAIN, SUM};
 use plan_rows::word;
 
 // The tree stands in the last of the plan's own words, its nodes behind the node count.
@@ -38,12 +39,14 @@ fn put_pair(plan: &mut PlanWords, r: usize, first: u64, second: u64)
     requires { r < most_rows }
     ensures { plan.new ≡ placed plan.old r no_span (trimmed_sum (first ∷ second ∷ [])) }
 {
-    let mut f = chain_arrays::zeros();
-    f[0] = first;
-    f[1] = second;
-    let t = chain_calls::trim(f, 1);
-    let elements = t.elements;
-    fold_rows::put_chain(plan, r, SUM_CHAIN, t.length, elements);
+    let mut elements = chain_arrays::zeros();
+    elements[0] = first;
+    elements[1] = second;
+    let trimmed = chain_calls::trim(Chain {
+        length: 1,
+        elements,
+    });
+    put_sum(plan, r, trimmed.unwrap());
 }
 
 // The operator of two operands: + - * or a raise.

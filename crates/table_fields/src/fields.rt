@@ -1,7 +1,7 @@
 // Fields of a line of a job file: where they begin and end, how many there are, and whose field is taken.
 // What is judged of a line is in `table_line_checks`; what a line prints, and how lines are found in the input, is in the crates above.
 ghost use Rattle.std.specs.Prelude.{◌≡◌, ◌+◌, ◌≤◌, length, drop};
-ghost use Rattle.table.specs.Parts.{before, after_tabs, field, field_count, picked};
+ghost use Rattle.table.specs.Parts.{before, field, field_count, picked};
 
 // The place of the first such byte at or after a place, or the length.
 pub fn find(text: &[u8], from: usize, byte: u8) -> usize

@@ -31,7 +31,7 @@ fn print_points(plan: &mut [u64], table: &mut [u64], out: &mut [u8], at: usize) 
     ensures plan_after { plan.new ≡ plan_left Tables (length table.old) plan.old }
     ensures table_after { table.new ≡ table_left Tables (length table.old) plan.old table.old }
 {
-    plan_fill::fill(plan, table, u64::MAX);
+    let _ = plan_fill::fill(plan, table, u64::MAX);
     table_job_lines::write_points(out, at, table)
 }
 
@@ -51,8 +51,8 @@ fn print_plan(
     ensures { PlanPrinted tool n formula.now plan.old table.old out.old result
         plan.new table.new out.new }
 {
-    let cost = plan_costs::cost(plan);
-    let at = table_job_lines::write_job_line(out, n, plan[0], cost.cost);
+    let cost = plan_costs::plan_cost(plan);
+    let at = table_job_lines::write_job_line(out, n, plan[0], cost);
     match tool {
         Tool::Tables => print_points(plan, table, out, at),
         Tool::Reasons => table_rows::write_rows(out, at, formula, plan),
@@ -76,9 +76,8 @@ fn print_taken(
     ensures { JobPrinted tool n (as_job_line (Ok job)) formula.now plan.old table.old out.old result
         plan.new table.new out.new }
 {
-    let answer = compile::compile(formula, job.start, job.step, plan);
-    if answer.number != 0 {
-        return table_job_lines::write_no_line(out, n, answer.number, answer.place);
+    if let Err(refusal) = compile::compile(formula, job.start, job.step, plan) {
+        return table_job_lines::write_no_line(out, n, refusal.number(), refusal.place());
     }
     let points = &mut table[..job.count as usize];
     print_plan(tool, n, formula, plan, points, out)

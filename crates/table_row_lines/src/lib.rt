@@ -2,7 +2,7 @@
 // Which rows are printed, and what their reasons are, is for `table_rows`; `no` and `job` lines and points are in `table_job_lines`.
 #![tactic(auto)]
 
-ghost use Rattle.std.specs.Prelude.{◌≡◌, ◌∷◌, ◌++◌, ◌+◌, ◌≤◌, ◌<◌, length};
+ghost use Rattle.std.specs.Prelude.{◌≡◌, ◌∷◌, ◌++◌, ◌+◌, ◌≤◌, length};
 ghost use Rattle.plan.specs.Measures.{row_length, longest_text};
 ghost use Rattle.plan.specs.Row.{first_byte, end_byte, row_cost};
 ghost use Rattle.reason.specs.Answer.{reason_number};

@@ -2,7 +2,8 @@
 // What a run prints is decided in `table_steps`; here bytes are read and written, and buffers are lent.
 #![tactic(auto)]
 
-ghost use Rattle.std.specs.Prelude.{◌≡◌, ◌+◌, ◌≤◌, length, OnOk, OnErr};
+ghost use Rattle.std.specs.Prelude.{◌≡◌, ◌≤◌, length, IfOk, OnErr};
+ghost use Rattle.table_runs.specs.declared.TheConstants.{OUTPUT_BYTES};
 
 use plan::PLAN_WORDS;
 use std::io;
@@ -17,6 +18,7 @@ const INPUT_BYTES: usize = 65536;
 const OUTPUT_BYTES: usize = 262144;
 
 // What ends a run before the end of its input: a step that is not done, or a write that fails.
+#[derive(Drop)]
 enum Stop {
     NotDone,
     Failed(io::Error),
@@ -47,14 +49,15 @@ fn write<R: Print + Eprint>(rt: &R, bytes: &[u8]) -> io::Result<()> {
 
 // Reads into the buffer: how many bytes came, 0 at the end of the input. A failure is told on standard error.
 fn read(rt: &impl Eprint, from: &mut impl Read, input: &mut [u8]) -> io::Result<usize>
-    ensures { OnOk result (λ got. got ≤ length input.new) }
+    ensures { IfOk result (λ got. got ≤ length input.new) }
 {
     from.read(input)
         .inspect_err(|error| tell(rt, "read", *error))
 }
 
 // A run: where it stands, its buffers, and how much of the output buffer is filled.
-struct Run {
+#[derive(Drop)]
+struct ToolRun {
     tool: Tool,
     progress: Progress,
     line: [u8; HELD_AT_MOST],
@@ -63,19 +66,23 @@ struct Run {
     table: [u64; MOST_POINTS],
     out: [u8; OUTPUT_BYTES],
     filled: usize,
-    ghost within: { filled ≤ length out },
+    ghost within: { filled ≤ OUTPUT_BYTES },
 }
 
-impl Run {
-    // Writes what fills the output buffer.
-    fn flush<R: Print + Eprint>(&mut self, rt: &R) -> io::Result<()> {
+impl ToolRun {
+    // Writes what fills the output buffer. Where that fails, nothing has changed.
+    fn flush<R: Print + Eprint>(&mut self, rt: &R) -> io::Result<()>
+        ensures { OnErr result (self.new ≡ self.old) }
+    {
         write(rt, &self.out[..self.filled])?;
         self.filled = 0;
         Ok(())
     }
 
-    // Room for what a step prints.
-    fn make_room<R: Print + Eprint>(&mut self, rt: &R) -> io::Result<()> {
+    // Room for what a step prints. Where the write that makes it fails, nothing has changed.
+    fn make_room<R: Print + Eprint>(&mut self, rt: &R) -> io::Result<()>
+        ensures { OnErr result (self.new ≡ self.old) }
+    {
         if self.out.len() - self.filled < MOST_PRINTED {
             self.flush(rt)?;
         }
@@ -84,8 +91,8 @@ impl Run {
 
     // A step, which writes behind the filled part of the output buffer. Answers how much of the input it used.
     fn step(&mut self, input: &[u8]) -> Result<usize, NotDone>
-        ensures used_in_bounds { OnOk result (λ used. used ≤ length input.now) }
-        ensures moves { OnOk result (λ used. 1 ≤ length input.now → 1 ≤ used) }
+        ensures used_in_bounds { IfOk result (λ used. used ≤ length input.now) }
+        ensures moves { IfOk result (λ used. 1 ≤ length input.now → 1 ≤ used) }
     {
         let filled = self.filled;
         let stepped = table_steps::step(
@@ -104,6 +111,7 @@ impl Run {
     }
 
     // All steps over some input, and what they print written.
+    // Kept: a `while`, since each step tells anew how far it came, and one that is not done ends the run.
     fn take<R: Print + Eprint>(&mut self, rt: &R, input: &[u8]) -> Result<(), Stop> {
         let mut left = input;
         while !left.is_empty() {
@@ -159,7 +167,7 @@ impl Run {
 
 // A run with buffers of its own. A read or a write that fails is its answer too.
 pub fn run<R: Print + Eprint>(rt: &R, from: &mut impl Read, tool: Tool) -> io::Result<()> {
-    let mut run = Run {
+    let mut tool_run = ToolRun {
         tool,
         progress: table_steps::start(),
         line: [0; HELD_AT_MOST],
@@ -169,7 +177,7 @@ pub fn run<R: Print + Eprint>(rt: &R, from: &mut impl Read, tool: Tool) -> io::R
         out: [0; OUTPUT_BYTES],
         filled: 0,
     };
-    match run.read_and_write(rt, from) {
+    match tool_run.read_and_write(rt, from) {
         Err(Stop::Failed(error)) => Err(error),
         Err(Stop::NotDone) | Ok(()) => Ok(()),
     }

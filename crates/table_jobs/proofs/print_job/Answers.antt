@@ -1,6 +1,5 @@
 -- `print_job` goes by the line's judgement.
 use mathlib.Core.Path.{refl}
-use native.Mathlib.Omega.{arith}
 use Rattle.std.proofs.Common.{Err}
 use Rattle.table.specs.Judged.{as_job_line}
 use Rattle.table_progress.proofs.Jobs.{line_refused}
