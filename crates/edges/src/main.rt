@@ -8,11 +8,9 @@ mod jobs;
 mod plans;
 
 use edges_calls::{backward, chains, formulas, probes};
+use edges_text::input::MOST_READ;
 use edges_text::{input, notation, text};
-use std::{io, str};
-
-// One byte more than the input may have.
-const MOST_READ: usize = 65536;
+use std::io;
 
 // A case is a name and a body with a bar between them. The section says what they are; a plan, a formula on grids and a job file are the whole line, and a
 // formula's text is its name. The body has its repeats written out, but for the words lent to a formula.
@@ -65,13 +63,9 @@ fn walk(rt: &impl Print, cases: &str) -> io::Result<()> {
 }
 
 fn main(rt: HostRuntime) -> io::Result<()> {
-    let mut cases = [0; MOST_READ];
-    let count = input::read_full(&mut rt.stdin(), &mut cases)?;
-    if count == MOST_READ {
-        return rt.println("the input is longer than 65535 bytes");
-    }
-    match str::from_utf8(&cases[..count]) {
+    let mut buffer = [0; MOST_READ];
+    match input::cases(&mut rt.stdin(), &mut buffer)? {
         Ok(cases) => walk(&rt, cases),
-        Err(_) => rt.println("the input is no text"),
+        Err(told) => rt.println(told),
     }
 }

@@ -3,14 +3,12 @@
 #![tactic(auto)]
 
 use edges_print::Judgement;
+use edges_text::input::MOST_READ;
 use edges_text::rows::{CasePlan, Grid};
 use edges_text::{input, notation, rows, text, words};
 use plan::MOST_ROWS;
 use reason::Explained;
-use std::{io, str};
-
-// One byte more than the input may have.
-const MOST_READ: usize = 65536;
+use std::io;
 
 // number place reason first end
 fn ask(rt: &impl Print, plan: &[u64], row: usize) -> io::Result<()> {
@@ -83,13 +81,9 @@ fn walk(rt: &impl Print, cases: &str) -> io::Result<()> {
 }
 
 fn main(rt: HostRuntime) -> io::Result<()> {
-    let mut cases = [0; MOST_READ];
-    let count = input::read_full(&mut rt.stdin(), &mut cases)?;
-    if count == MOST_READ {
-        return rt.println("the input is longer than 65535 bytes");
-    }
-    match str::from_utf8(&cases[..count]) {
+    let mut buffer = [0; MOST_READ];
+    match input::cases(&mut rt.stdin(), &mut buffer)? {
         Ok(cases) => walk(&rt, cases),
-        Err(_) => rt.println("the input is no text"),
+        Err(told) => rt.println(told),
     }
 }

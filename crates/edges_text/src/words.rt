@@ -46,7 +46,7 @@ pub fn put_list(list: &[u8], r: u64, words: &mut [u64]) {
     }
 }
 
-// The first words of a list.
+// The first words of a list, and UNREAD past them.
 pub fn list<const N: usize>(text: &[u8]) -> [u64; N] {
     let mut words = [UNREAD; N];
     put_list(text, 0, &mut words);

@@ -1,5 +1,5 @@
 -- `after` lends what stands after the first mark.
-use Rattle.std.proofs.Common.{◌∙◌, ◌≡◌, ◌+◌, ◌-◌, ◌≤◌, sym, ap, length, drop, take_all, length-drop, drop_of_length-le, arith}
+use Rattle.std.proofs.Common.{◌∙◌, ◌≡◌, ◌+◌, ◌-◌, sym, ap, length, drop, take_all, length-drop, drop_of_length-le, arith}
 use Prim.Native.Nat.{suc}
 use Rattle.table.specs.Parts.{before}
 use Rattle.table.proofs.PartsFound.{after_dropped}

@@ -1,5 +1,5 @@
 -- `before` lends what stands before the first mark.
-use Rattle.std.proofs.Common.{◌∙◌, ◌≡◌, sym, ap, take, take_all, arith}
+use Rattle.std.proofs.Common.{◌∙◌, sym, ap, take, take_all}
 use Rattle.table.proofs.PartsFound.{before-taken}
 use Rattle.edges_text.proofs.Marks.{place_some, place_none}
 use Rattle.edges_text.proofs.text.before.Goals as goal
