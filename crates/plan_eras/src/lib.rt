@@ -12,7 +12,6 @@ ghost use Rattle.chain.specs.Crossing.{crossing};
 
 use chain_arrays::crossed;
 use plan::{CountedPoints, ELEMENTS_START, MOST_ROWS, Refusal};
-use plan_costs::lesser;
 use plan_rows::kinds::{CONSTANT, SUM_CHAIN};
 use plan_rows::word;
 use plan_sound::sound;
@@ -95,7 +94,7 @@ pub fn fill_eras(plan: &mut [u64], table: &mut [u64], budget: u64) -> Result<Cou
 {
     eras_refusal(plan)?;
     let point_cost = plan_costs::plan_cost(plan) + 1;
-    let points = lesser(table.len(), (budget / point_cost) as usize);
+    let points = table.len().min((budget / point_cost) as usize);
     let sum = count_table(plan, &mut table[0..points]);
     let spent = points as u64 * point_cost;
     Ok(CountedPoints { points, spent, sum })

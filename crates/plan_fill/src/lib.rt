@@ -9,7 +9,6 @@ ghost use Rattle.plan.specs.Answers.{as_fill_answer};
 ghost use Rattle.plan.specs.Filling.{plan_after, point_values, fill};
 
 use plan::{FilledPoints, MOST_ROWS, Refusal};
-use plan_costs::lesser;
 use plan_sound::sound;
 
 // One point for each word of the table: the root's value, and then a shift of every chain. The lent values are scratch.
@@ -46,7 +45,7 @@ pub fn fill(plan: &mut [u64], table: &mut [u64], budget: u64) -> Result<FilledPo
 {
     sound(plan)?;
     let point_cost = plan_costs::plan_cost(plan) + 1;
-    let points = lesser(table.len(), (budget / point_cost) as usize);
+    let points = table.len().min((budget / point_cost) as usize);
     fill_table(plan, &mut table[0..points]);
     let spent = points as u64 * point_cost;
     Ok(FilledPoints { points, spent })

@@ -10,7 +10,7 @@ ghost use Rattle.plan.specs.Points.{row_value, root_value, shifted_row, shifted_
 
 use chain_arrays::{Operation, shift_part};
 use plan::{ELEMENTS_START, ROW_WORDS};
-use plan_rows::kinds::{PRODUCT_CHAIN, SUM_CHAIN};
+use plan_rows::kinds::{PRODUCT_CHAIN, RowKind, SUM_CHAIN};
 use plan_rows::row;
 
 // The value of a row, given those of the rows before it.
@@ -22,14 +22,13 @@ fn row_value(row: &[u64], values: &[u64]) -> u64
 {
     let left = values[row[1] as usize];
     let right = values[row[2] as usize];
-    let kind = row[0];
-    match kind {
-        3 => std::num::wrapping_add_u64(left, right),
-        4 => std::num::wrapping_sub_u64(left, right),
-        5 => word::times(left, right),
-        6 => std::num::wrapping_sub_u64(0, left),
-        7 => word::power(left, row[2]),
-        8 => word::power(left, right),
+    match RowKind::try_from(row[0]) {
+        Ok(RowKind::Sum) => left.wrapping_add(right),
+        Ok(RowKind::Difference) => left.wrapping_sub(right),
+        Ok(RowKind::Product) => word::times(left, right),
+        Ok(RowKind::Minus) => left.wrapping_neg(),
+        Ok(RowKind::LiteralPower) => word::power(left, row[2]),
+        Ok(RowKind::Raise) => word::power(left, right),
         _ => row[ELEMENTS_START],
     }
 }
@@ -42,10 +41,8 @@ pub fn root_value(plan: &[u64], values: &mut [u64]) -> u64
     ensures { result ≡ root_value 64 plan.now }
 {
     let count = plan[0] as usize;
-    let mut r = 0;
-    while r < count {
+    for r in 0..count {
         values[r] = row_value(row(plan, r), values);
-        r += 1;
     }
     values[count - 1]
 }
@@ -74,10 +71,8 @@ pub fn shift_plan(plan: &mut [u64])
     ensures { plan.new ≡ shifted_plan 64 plan.old }
 {
     let count = plan[0] as usize;
-    let mut r = 0;
-    while r < count {
+    for r in 0..count {
         let at = plan_rows::start(r);
         shift_row(&mut plan[at..at + ROW_WORDS]);
-        r += 1;
     }
 }

@@ -22,10 +22,7 @@ fn base_is_sound(plan: &[u64], r: usize) -> bool
     ensures { result ≡ sound_base (first_rows r plan.now) (row plan.now r) }
 {
     let words = row(plan, r);
-    if words[0] != RAISE {
-        return true;
-    }
-    odd_constant(row(plan, words[1] as usize))
+    words[0] != RAISE || odd_constant(row(plan, words[1] as usize))
 }
 
 // Row r, given the rows before it: it keeps the table, the base of a raise is an odd constant, and it came from some text.
@@ -38,10 +35,7 @@ fn row_is_sound(plan: &[u64], r: usize) -> bool
     if !keeps_table(words, r as u64) {
         return false;
     }
-    if !base_is_sound(plan, r) {
-        return false;
-    }
-    span_is_sound(words)
+    base_is_sound(plan, r) && span_is_sound(words)
 }
 
 fn rows_are_sound(plan: &[u64], count: usize) -> bool
@@ -62,17 +56,11 @@ fn is_sound(plan: &[u64]) -> bool
     ensures { result ≡ sound plan.now }
 {
     let count = plan[0] as usize;
-    if count == 0 {
-        return false;
-    }
-    if MOST_ROWS < count {
-        return false;
-    }
-    if !rows_are_sound(plan, count) {
+    if count == 0 || MOST_ROWS < count {
         return false;
     }
     let end = plan_rows::start(count);
-    all_zero(&plan[end..PLAN_WORDS])
+    rows_are_sound(plan, count) && all_zero(&plan[end..PLAN_WORDS])
 }
 
 // A plan that is too short is refused before it is judged.

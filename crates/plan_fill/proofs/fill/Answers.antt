@@ -13,6 +13,6 @@ returns c =
     let plan = c.args.plan.now in
     let table = c.args.table.now in
     let done =
-    fill_done plan table c.args.budget (found_sound plan c.in_ok-sound.ensures) c.plan_cost-point_cost.ensures.value c.lesser-points.ensures
+    fill_done plan table c.args.budget (found_sound plan c.in_ok-sound.ensures) c.plan_cost-point_cost.ensures.value c.min-points.ensures
     c.fill_table.ensures.table_after c.fill_table.ensures.plan_after in
     record { value = done.0; table_after = done.1.0; plan_after = done.1.1 }
