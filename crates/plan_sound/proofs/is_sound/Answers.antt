@@ -13,8 +13,8 @@ unfolding sound
 returns-then-count-eq0 c =
     let plan = c.args.plan.now in
     elim c.then-count-eq0.branch [
-      then-count-eq0-via-then-count-eq0 w ↦ rw w.if-count-eq0.true
-    | then-count-eq0-via-else-count-eq0+then-count-gt-MOST_ROWS w ↦ rw (le-leb 1 (row_count plan) (omega arith), lt-leb (row_count plan) most_rows (omega arith))
+      | then-count-eq0-via-then-count-eq0 w ↦ rw w.if-count-eq0.true
+      | then-count-eq0-via-else-count-eq0+then-count-gt-MOST_ROWS w ↦ rw (le-leb 1 (row_count plan) (omega arith), lt-leb (row_count plan) most_rows (omega arith))
     ]
 
 pub returns-then-rows_are_sound : goal.returns-then-rows_are_sound
