@@ -9,6 +9,8 @@ use native.Mathlib.Omega.{arith}
 use lib.Dec.{eqb}
 use lib.ListN.{length, get_or, take}
 use borrow.Author.Tests.{eqb-true, eq-eqb, ne_eqb}
+use Rattle.std.specs.Prelude.{MatchOption, Option, Some, None}
+use Rattle.std.specs.Option.{unwrap_or}
 use Rattle.chain.specs.Chain.{value, rest, shift, meeting, shift_from_top, value_at, words, with_last, without_trailing, trimmed, row}
 use Rattle.chain.specs.SumChain.{sum_at, sum_shift}
 use Rattle.chain.specs.ProductChain.{product_at, trimmed_product}
@@ -207,6 +209,53 @@ module _ (unit : ℕ) where
   unfolding trimmed without_trailing
   trailing_none [] h = absurd (not-suc-le-zero h)
   trailing_none (a ∷ f) h = refl
+
+-- ---- the length by the last element that is not the unit
+module _ (unit : ℕ) where
+  all_dropped : (g : List ℕ) → ((k : ℕ) → k < length g → get_or g k 0 ≡ unit) → without_trailing unit g ≡ []
+  unfolding without_trailing with_last
+  all_dropped [] e = refl
+  all_dropped (a ∷ g) e =
+      ap (λ f. with_last unit a f) (all_dropped g (λ k h. e (suc k) (omega arith)))
+      ∙ ap {B = List ℕ} (λ b. cond b [] (a ∷ [])) (eq-eqb a unit (e 0 (omega arith)))
+
+  longer : (a : ℕ) (f : List ℕ) (n : ℕ) → length f ≡ suc n → length (with_last unit a f) ≡ suc (suc n)
+  unfolding with_last
+  longer a [] n e = absurd (omega arith)
+  longer a (b ∷ f) n e = ap suc e
+
+  kept_to : (g : List ℕ) (last : ℕ) → last < length g → (get_or g last 0 ≡ unit → ⊥)
+      → ((k : ℕ) → last < k → k < length g → get_or g k 0 ≡ unit) → length (without_trailing unit g) ≡ suc last
+  unfolding without_trailing with_last
+  kept_to [] last h other e = absurd (not-suc-le-zero h)
+  kept_to (a ∷ g) zero h other e =
+      ap (λ f. length (with_last unit a f)) (all_dropped g (λ k l. e (suc k) (omega arith) (omega arith)))
+      ∙ ap (λ b. length (cond b [] (a ∷ []))) (ne_eqb a unit other)
+  kept_to (a ∷ g) (suc last) h other e =
+      longer a (without_trailing unit g) last (kept_to g last (le_of_suc-le-suc h) other (λ k l m. e (suc k) (omega arith) (omega arith)))
+
+  pub trimmed_to : (f : List ℕ) (last : ℕ) → last < length f → (get_or f last 0 ≡ unit → ⊥)
+      → ((k : ℕ) → last < k → k < length f → get_or f k 0 ≡ unit) → length (trimmed unit f) ≡ suc last
+  unfolding trimmed
+  trimmed_to [] last h other e = absurd (not-suc-le-zero h)
+  trimmed_to (a ∷ f) zero h other e = ap (λ g. suc (length g)) (all_dropped f (λ k l. e (suc k) (omega arith) (omega arith)))
+  trimmed_to (a ∷ f) (suc last) h other e =
+      ap suc (kept_to f last (le_of_suc-le-suc h) other (λ k l m. e (suc k) (omega arith) (omega arith)))
+
+  pub trimmed_to_one : (f : List ℕ) → ((k : ℕ) → k < length f → get_or f k 0 ≡ unit) → length (trimmed unit f) ≡ 1
+  unfolding trimmed without_trailing
+  trimmed_to_one [] e = refl
+  trimmed_to_one (a ∷ f) e = ap (λ g. suc (length g)) (all_dropped f (λ k l. e (suc k) (omega arith)))
+
+  -- What looking from the end of n elements finds: that all are the unit, or the last one that is not.
+  abbrev pub IsLastOther : ℕ → List ℕ → Option ℕ → Type 0
+  IsLastOther n f found =
+      MatchOption found ((k : ℕ) → k < n → get_or f k 0 ≡ unit)
+      (λ last. (last < n) × (get_or f last 0 ≡ unit → ⊥) × ((k : ℕ) → last < k → k < n → get_or f k 0 ≡ unit))
+
+  pub by_last_other : (n : ℕ) (f : List ℕ) (found : Option ℕ) → length f ≡ n → IsLastOther n f found → unwrap_or found 0 ≡ length (trimmed unit f) - 1
+  by_last_other n f None long all = omega (arith, trimmed_to_one f (λ k h. all k (omega arith)))
+  by_last_other n f (Some last) long is = omega (arith, trimmed_to f last (omega arith) is.1 (λ k h l. is.2 k h (omega arith)))
 
 -- ---- a shift keeps the trimmed length, from either end: the last element that is not 0 stays
 module _ (w : ℕ) where

@@ -48,10 +48,7 @@ use Rattle.chain.proofs.SumLaws as SumLaws
 use Rattle.chain.proofs.ProductLaws.{value-product-words}
 use Rattle.chain.proofs.Promises as ChainPromises
 use Rattle.chain.proofs.CrossingLaws as Crossing
-use Rattle.plan.specs.declared.FillAnswer.{FillAnswer}
-use Rattle.plan.specs.declared.FillErasAnswer.{FillErasAnswer}
-use Rattle.plan.specs.declared.CostAnswer.{CostAnswer}
-use Rattle.plan.specs.declared.SoundAnswer.{SoundAnswer}
+use Rattle.plan.specs.Answers.{FillAnswer, FillErasAnswer, CostAnswer, SoundAnswer}
 use Rattle.plan.specs.Plan as Plan
 use Rattle.plan.specs.Row.{Row, kind, word_a, word_b, first_element, first_byte, end_byte}
 use Rattle.plan.specs.Points.{root_value}
@@ -69,11 +66,11 @@ use Rattle.fold.specs.Layout.{plan_words}
 use Rattle.fold.proofs.Compiled as Compiled
 use Rattle.fold.specs.OneChain.{OneSum, SameChain}
 use Rattle.fold.specs.RowSpans.{Ordered, SameRow, text_of}
-use Rattle.fold.specs.declared.CompileAnswer.{CompileAnswer}
+use Rattle.fold.specs.Answer.{CompileAnswer}
 use Rattle.fold.specs.Compiling.{Compiling, too_short, refused, accepted}
 use Rattle.fold.proofs.Promise as Promise
 use Rattle.fold.proofs.Promise.{compiling_unique}
-use Rattle.reason.specs.declared.ReasonAnswer.{ReasonAnswer}
+use Rattle.reason.specs.Answer.{ReasonAnswer}
 use Rattle.reason.specs.RowTrees.{operand_spans, operator_over, row_tree}
 use Rattle.reason.specs.Reasons.{Stays, Folds, Named, Reason, would_fold}
 use Rattle.reason.specs.Explaining.{refusing, explaining, Explaining, not-counted, no_operator}
@@ -81,8 +78,7 @@ use Rattle.reason.proofs.OneReason as OneReason
 use Rattle.reason.proofs.TreeLaws as RowTrees
 use Rattle.reason.proofs.SoundRows as SoundRows
 use Rattle.reason.proofs.Answers as Reasons
-use Rattle.probe.specs.declared.ProbeAnswer.{ProbeAnswer}
-use Rattle.probe.specs.declared.Verdict.TheVariants.{NoVerdict}
+use Rattle.probe.specs.Answer.{ProbeAnswer, NoVerdict}
 use Rattle.probe.specs.Probe as ProbeSpec
 use Rattle.probe.specs.Probe.{offset, verdict, verdict_word, ahead, behind, within, unset, probe_answer}
 use Rattle.probe.proofs.Laws as Probe

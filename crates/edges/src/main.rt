@@ -8,64 +8,65 @@ mod jobs;
 mod plans;
 
 use edges_calls::{backward, chains, formulas, probes};
-use edges_print as printing;
 use edges_text::{input, notation, text};
-use std::io;
+use std::{io, str};
 
-// A case is a name and a body with a bar between them. The section's first letter says what they are; a plan, a formula on grids and a
-// job file are the whole line, and a formula's text is its name. `line` is as written, `expanded` has its repeats written out.
-fn case(rt: &impl Print, section: u8, line: &[u8], expanded: &[u8]) -> io::Result<()> {
-    let name = text::before(line, b'|');
+// One byte more than the input may have.
+const MOST_READ: usize = 65536;
+
+// A case is a name and a body with a bar between them. The section says what they are; a plan, a formula on grids and a job file are the whole line, and a
+// formula's text is its name. The body has its repeats written out, but for the words lent to a formula.
+fn case(rt: &impl Print, section: &str, line: &str, expanded: &[u8]) -> io::Result<()> {
+    let (name, rest) = line.split_once('|').unwrap_or((line, ""));
     let body = text::after(expanded, b'|');
     match section {
-        b'c' => chains::print(rt, name, chains::work(body)),
-        b'v' => chains::value(rt, name, body),
-        b's' => chains::sequence(rt, name, body),
-        b'l' => chains::list(rt, name, body),
-        b't' => eras::turn(rt, name, body),
-        b'b' => backward::value(rt, name, body),
-        b'w' => backward::walk(rt, name, body),
-        b'o' => probes::offset(rt, name, body),
-        b'f' => formulas::reading(rt, name, text::before(expanded, b'|'), body),
-        b'p' => plans::run(rt, line, expanded),
-        b'g' => grids::each(rt, line),
-        b'j' => jobs::run(rt, line),
-        _ => printing::label(rt, printing::NO_SECTION),
+        "chain" => chains::print(rt, name, chains::work(body)),
+        "value" => chains::value(rt, name, body, chains::present),
+        "sequence" => chains::sequence(rt, name, body),
+        "list" => chains::list(rt, name, body),
+        "turn" => eras::turn(rt, name, body),
+        "backward" => chains::value(rt, name, body, backward::present),
+        "walk" => backward::walk(rt, name, body),
+        "offset" => probes::offset(rt, name, body),
+        "formula" => formulas::reading(rt, name, text::before(expanded, b'|'), rest),
+        "plan" => plans::run(rt, line, expanded),
+        "grids" => grids::each(rt, line),
+        "jobs" => jobs::run(rt, line),
+        _ => rt.println("no such section"),
     }
 }
 
-// Runs a case, unless the line is empty, a comment or the name of a section. Answers the section of the next line.
-fn turn(rt: &impl Print, section: u8, line: &[u8]) -> io::Result<u8> {
-    let mut bytes = [0u8; 7000];
-    match formula_digits::byte_at(line, 0) {
-        0 => Ok(section),
-        b';' => Ok(section),
-        b'[' => Ok(formula_digits::byte_at(line, 1)),
-        _ => {
-            let length = notation::expand(line, &mut bytes);
-            case(rt, section, line, text::part(&bytes, 0, length))?;
-            Ok(section)
+// The name of the section that a line begins.
+fn section_of(line: &str) -> Option<&str> {
+    line.strip_prefix('[')?.strip_suffix(']')
+}
+
+// Runs every line but those that are empty, comments or names of sections.
+fn walk(rt: &impl Print, cases: &str) -> io::Result<()> {
+    let mut section = "";
+    for line in cases.lines() {
+        if line.is_empty() || line.starts_with(';') {
+            continue;
         }
-    }
-}
-
-fn walk(rt: &impl Print, input: &[u8]) -> io::Result<()> {
-    let mut section = 0;
-    let mut at = 0;
-    while at < input.len() {
-        let line = text::cut(input, at, b'\n');
-        section = turn(rt, section, text::part(input, at, line.end))?;
-        at = line.after;
+        match section_of(line) {
+            Some(name) => section = name,
+            None => {
+                let mut bytes = [0; 7000];
+                case(rt, section, line, notation::expand(line.as_bytes(), &mut bytes))?;
+            }
+        }
     }
     Ok(())
 }
 
 fn main(rt: HostRuntime) -> io::Result<()> {
-    let mut cases = [0u8; 65536];
+    let mut cases = [0; MOST_READ];
     let count = input::read_full(&mut rt.stdin(), &mut cases)?;
-    if count < 65536 {
-        walk(&rt, &cases[..count])
-    } else {
-        printing::label(&rt, printing::TOO_LONG)
+    if count == MOST_READ {
+        return rt.println("the input is longer than 65535 bytes");
+    }
+    match str::from_utf8(&cases[..count]) {
+        Ok(cases) => walk(&rt, cases),
+        Err(_) => rt.println("the input is no text"),
     }
 }

@@ -9,10 +9,11 @@ pub fn read_full(from: &mut impl Read, buffer: &mut [u8]) -> io::Result<usize>
     ensures { IfOk result (λ count. count ≤ length buffer.new) }
 {
     let mut done = 0;
+    // Kept: (a) no heap: the library's `read_to_end` fills a Vec, and `read_exact` refuses an input that ends before the buffer is full.
     while done < buffer.len() {
         let got = from.read(&mut buffer[done..])?;
         if got == 0 {
-            return Ok(done);
+            break;
         }
         done += got;
     }

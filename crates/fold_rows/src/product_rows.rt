@@ -5,6 +5,7 @@ ghost use Rattle.plan.specs.Measures.{plan_length, most_rows};
 ghost use Rattle.fold.specs.Folded.{trimmed_product};
 ghost use Rattle.fold_rows.specs.Standing.{filled_with_ones, placed, no_span};
 
+use plan::PlanWords;
 use plan_rows::kinds::PRODUCT_CHAIN;
 
 // The elements up to the given length, and 1 past it.
@@ -12,19 +13,14 @@ pub fn with_ones(elements: [u64; 17], last: usize) -> [u64; 17]
     requires { last ≤ 16 }
     ensures { result ≡ filled_with_ones 17 (take (last + 1) elements) }
 {
-    let mut r = elements;
-    let mut j = last;
-    while j < 16 {
-        j += 1;
-        r[j] = 1;
-    }
-    r
+    let mut filled = elements;
+    filled[last + 1..].fill(1);
+    filled
 }
 
 // The row of a product chain of 17 elements, trimmed; with a first element 0 it is the constant 0.
-pub fn put_product(plan: &mut [u64], r: usize, elements: [u64; 17])
-    requires plan_length_in_bounds { plan_length ≤ length plan.old }
-    requires r_lt_most_rows { r < most_rows }
+pub fn put_product(plan: &mut PlanWords, r: usize, elements: [u64; 17])
+    requires { r < most_rows }
     ensures { plan.new ≡ placed plan.old r no_span (trimmed_product elements) }
 {
     if elements[0] == 0 {

@@ -3,6 +3,7 @@
 #![tactic(auto)]
 
 ghost use Rattle.std.specs.Prelude.{◌≡◌};
+ghost use Rattle.formula.specs.Words.{kind_number, KindOf};
 ghost use Rattle.formula.specs.Answer.{refusal_number, refusal_place};
 
 // The bytes of a text at most.
@@ -13,7 +14,51 @@ pub const MOST_NODES: usize = 128;
 
 pub const TREE_WORDS: usize = 1 + 2 * MOST_NODES;
 
-// The kinds of nodes that have no operands; the others are those of a plan's rows.
+// The kinds of nodes, by their numbers in the words of a tree; from 3 on they are those of a plan's rows.
+#[derive(Clone, Copy, Debug, PartialEq, Eq)]
+pub enum NodeKind {
+    Number = 0,
+    Variable = 1,
+    Sum = 3,
+    Difference = 4,
+    Product = 5,
+    Minus = 6,
+    LiteralPower = 7,
+    Raise = 8,
+}
+
+// A number that is no node's kind.
+#[derive(Clone, Copy, Debug, PartialEq, Eq)]
+pub struct UnknownKind(pub u64);
+
+impl TryFrom<u64> for NodeKind {
+    type Error = UnknownKind;
+
+    ghost try_from_gives = { KindOf };
+
+    fn try_from(number: u64) -> Result<NodeKind, UnknownKind> {
+        match number {
+            0 => Ok(NodeKind::Number),
+            1 => Ok(NodeKind::Variable),
+            3 => Ok(NodeKind::Sum),
+            4 => Ok(NodeKind::Difference),
+            5 => Ok(NodeKind::Product),
+            6 => Ok(NodeKind::Minus),
+            7 => Ok(NodeKind::LiteralPower),
+            8 => Ok(NodeKind::Raise),
+            _ => Err(UnknownKind(number)),
+        }
+    }
+}
+
+impl From<NodeKind> for u64 {
+    ghost from_gives = { λ kind n. n ≡ kind_number kind };
+
+    fn from(kind: NodeKind) -> u64 {
+        kind as u64
+    }
+}
+
 pub const NUMBER: u64 = 0;
 
 pub const VARIABLE: u64 = 1;

@@ -23,7 +23,7 @@ fn nodes_fault(nodes: usize) -> u64
     ensures { result ≡ cond (ltb most_nodes nodes) (fault_code 7 0) no_fault }
 {
     if MOST_NODES < nodes {
-        return faults::fault(7, 0);
+        return faults::fault(Refusal::TooManyNodes);
     }
     faults::NO_FAULT
 }
@@ -49,15 +49,14 @@ fn judged(text: &[u8]) -> Result<(), Refusal>
     if LONGEST_TEXT < text.len() {
         return Err(Refusal::TextTooLong);
     }
-    let deep = depth::deep_place(text);
-    if deep < text.len() {
-        return Err(Refusal::BracketsTooDeep(deep as u64));
+    if let Some(place) = depth::deep_place(text) {
+        return Err(Refusal::BracketsTooDeep(place as u64));
     }
-    let whole = formula_cursor::scan_whole(text);
-    if !whole.ok {
-        return Err(Refusal::NotAFormula(whole.at as u64));
-    }
-    noted(faults::lesser(whole.fault, nodes_fault(whole.nodes)))
+    let whole = match formula_cursor::scan_whole(text) {
+        Ok(whole) => whole,
+        Err(place) => return Err(Refusal::NotAFormula(place as u64)),
+    };
+    noted(whole.fault.min(nodes_fault(whole.nodes)))
 }
 
 // The words of an accepted text's tree, over all of the lent words.
@@ -68,8 +67,9 @@ fn write(text: &[u8], tree: &mut [u64])
 {
     word::clear(tree);
     let end = tree.len();
-    let whole = formula_cursor::read_whole(text, &mut tree[1..end]);
-    tree[0] = whole.nodes as u64;
+    if let Ok(whole) = formula_cursor::read_whole(text, &mut tree[1..end]) {
+        tree[0] = whole.nodes as u64;
+    }
 }
 
 // Reads a formula over all of the lent words: the node count, then the nodes as the words behind it have room for them. A refusal alters no word.

@@ -10,7 +10,7 @@ use lib.ListN.{length, take, drop, set, replicate, length-replicate, drop_of_len
 use lib.Seq.{take-length, length-take-le}
 use borrow.Author.Tests.{ne_eqb, ltb-true, ltb-false}
 use Rattle.std.specs.Prelude.{Ok}
-use Rattle.formula_scan.specs.declared.Found.{Found}
+use Rattle.formula_scan.specs.Fields.{Found}
 use Rattle.formula.specs.Tree.{Tree, nodes}
 use Rattle.formula.specs.Words.{tree_words, tree_length, most_nodes}
 use Rattle.formula.specs.Answer.{ReadAnswer, as_read_answer}

@@ -5,9 +5,7 @@ use Rattle.std.proofs.lemmas.List.Edits.{sets}
 use Rattle.formula.specs.Bytes.{star, plus_sign, minus_sign, Digit}
 use Rattle.formula.specs.Grammar.{Number}
 use Rattle.formula.specs.Words.{most_nodes, nodes_length}
-use Rattle.formula_scan.specs.declared.Found.{Found}
-use Rattle.formula_scan.specs.declared.Left.{Left}
-use Rattle.formula_scan.specs.declared.Numeral.{Numeral}
+use Rattle.formula_scan.specs.Fields.{Found, Left, Numeral}
 use Rattle.formula.specs.Answer.{ReadAnswer}
 use Rattle.formula.specs.declared.Refusal.{Refusal}
 use Rattle.formula.specs.declared.Refusal.TheVariants.{NumberTooLarge, ExponentTooLarge, TooManyNodes, BaseNotOdd}

@@ -10,7 +10,7 @@ ghost use Rattle.plan.specs.Points.{row_value, root_value, shifted_row, shifted_
 ghost use Rattle.plan.specs.Filling.{plan_after, point_values};
 ghost use Rattle.plan.specs.Counting.{counted_over};
 
-use chain_arrays::{Operation, shift_part};
+use chain_arrays::{Product, Sum, shift_part};
 use plan::{ELEMENTS_START, MOST_ROWS, PlanWords, ROW_WORDS};
 use plan_rows::kinds::{PRODUCT_CHAIN, RowKind, SUM_CHAIN};
 use plan_rows::row;
@@ -57,11 +57,11 @@ fn shift_row(row: &mut [u64])
     let kind = row[0];
     let end = ELEMENTS_START + (1 + row[1] as usize);
     if kind == SUM_CHAIN {
-        shift_part(Operation::Sum, &mut row[ELEMENTS_START..end]);
+        shift_part::<Sum>(&mut row[ELEMENTS_START..end]);
         return;
     }
     if kind == PRODUCT_CHAIN {
-        shift_part(Operation::Product, &mut row[ELEMENTS_START..end]);
+        shift_part::<Product>(&mut row[ELEMENTS_START..end]);
     }
 }
 

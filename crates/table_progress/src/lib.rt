@@ -20,6 +20,8 @@ pub enum Awaited {
 }
 
 // Where a run stands: the line that comes next, the next job's number, the bytes held of the line under way, and those kept of the defaults line.
+// Kept: `held` and `kept` are lengths of buffers that the caller lends anew at each step (`table_steps::step`), so no slice can stand in their place.
+// Kept: `number` and `kept` stand beside `awaited`, and not in its variant `Job`: `ready` takes any progress within its bounds, and theorems name them.
 #[derive(Clone, Copy)]
 pub struct Progress {
     pub awaited: Awaited,

@@ -17,20 +17,20 @@ returns-then-root_kind-lt-PRODUCT_CHAIN c =
     c.length_of-k.ensures c.difference.ensures
     c.put_sum.ensures
 
-pub with_ones-f-requires : goal.with_ones-f-requires
-with_ones-f-requires c =
+pub with_ones-negated-requires : goal.with_ones-negated-requires
+with_ones-negated-requires c =
     operand_short c.requires.one.2
     (omega (arith, c.kind-root_kind.ensures, c.if-root_kind-eq-PRODUCT_CHAIN.true))
-    c.length_of-k-then-root_kind-eq-PRODUCT_CHAIN.ensures
+    c.length_of-k.ensures
 
 pub returns-then-root_kind-eq-PRODUCT_CHAIN : goal.returns-then-root_kind-eq-PRODUCT_CHAIN
 returns-then-root_kind-eq-PRODUCT_CHAIN c =
-    let negated = c.wrapping_sub_u64 in
+    let negation = c.wrapping_neg in
     λ s a o.
     leaves-first-negated s a o (sym c.kind-root_kind.ensures ∙ c.if-root_kind-eq-PRODUCT_CHAIN.true)
-    c.elements.ensures
-    c.length_of-k-then-root_kind-eq-PRODUCT_CHAIN.ensures c.with_ones-f.ensures
-    (difference-found 64 0 _ _ negated.type_inv (omega arith) negated.ensures.value) c.put_product.ensures
+    c.elements-f.ensures
+    c.length_of-k.ensures c.with_ones-negated.ensures
+    (difference-found 64 0 _ _ negation.type_inv (omega arith) negation.ensures) c.put_product.ensures
 
 pub returns : goal.returns
 returns c =

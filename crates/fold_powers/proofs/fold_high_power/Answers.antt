@@ -9,7 +9,7 @@ use Rattle.fold_powers.proofs.PowerChains.{times_fits}
 use Rattle.fold_powers.proofs.PowerOperands.{power_of_product, power_of_sum, power_as_row}
 use borrow.Author.Rules.{rules}
 use Rattle.fold_powers.proofs.fold_high_power.Goals as goal
-use Rattle.fold_powers.proofs.fold_high_power.Goals.{then-root_kind-eq-SUM_CHAIN+else-k-n-le16, else-root_kind-eq-SUM_CHAIN}
+use Rattle.fold_powers.proofs.fold_high_power.Goals.{else-root_kind-eq-SUM_CHAIN-via-then-root_kind-eq-SUM_CHAIN+else-k-n-le-LONGEST, else-root_kind-eq-SUM_CHAIN-via-else-root_kind-eq-SUM_CHAIN}
 
 pub overflow_sub-root : goal.overflow_sub-root
 overflow_sub-root c = omega (arith, operand_some c.requires.one.2)
@@ -37,24 +37,24 @@ returns-then-root_kind-eq-PRODUCT_CHAIN c =
     (c.word_by_word-powers.ensures ∙ powers_by_word c.with_ones.result (search rules) c.args.n)
     c.put_product.ensures
 
-pub returns-then-k-n-le16 : goal.returns-then-k-n-le16
-returns-then-k-n-le16 c =
+pub returns-then-k-n-le-LONGEST : goal.returns-then-k-n-le-LONGEST
+returns-then-k-n-le-LONGEST c =
     power_of_sum c.args.plan.now c.args.first c.args.end c.args.n
     c.kind-root_kind.ensures
     c.requires.le_n c.requires.nonzero
     c.if-root_kind-eq-SUM_CHAIN.true
     c.length_of-k.ensures
-    c.elements-f.ensures c.if-k-n-le16.true
+    c.elements-f.ensures c.if-k-n-le-LONGEST.true
     c.power_of.ensures c.put_sum.ensures
 
 pub returns : goal.returns
 returns c =
     power_as_row c.args.plan.now c.args.first c.args.end c.args.n
     c.kind-root_kind.ensures c.requires.le_n c.requires.nonzero
-    (room_of_one c.requires.one.2 c.requires.plan_length_in_bounds c.requires.end_lt_most_rows)
+    (room_of_one c.requires.one.2 (omega arith) c.requires.end_lt_most_rows)
     c.length_of-k.ensures c.if-root_kind-eq-PRODUCT_CHAIN.false
-    (elim c.if-root_kind-eq-SUM_CHAIN.branch [
-      | then-root_kind-eq-SUM_CHAIN+else-k-n-le16 w ↦ inl (w.if-root_kind-eq-SUM_CHAIN.true, omega (arith, w.if-k-n-le16.false))
-      | else-root_kind-eq-SUM_CHAIN w ↦ inr w.if-root_kind-eq-SUM_CHAIN.false
+    (elim c.else-root_kind-eq-SUM_CHAIN.branch [
+      | else-root_kind-eq-SUM_CHAIN-via-then-root_kind-eq-SUM_CHAIN+else-k-n-le-LONGEST w ↦ inl (w.if-root_kind-eq-SUM_CHAIN.true, omega (arith, w.if-k-n-le-LONGEST.false))
+      | else-root_kind-eq-SUM_CHAIN-via-else-root_kind-eq-SUM_CHAIN w ↦ inr w.if-root_kind-eq-SUM_CHAIN.false
     ])
     c.append.ensures

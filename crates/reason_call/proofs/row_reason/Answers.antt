@@ -49,20 +49,20 @@ operand-right-requires c =
 pub product_reason-requires : goal.product_reason-requires
 product_reason-requires c = record { length_bound = c.operand-left.ensures.length_bound; length_bound_2 = c.operand-right.ensures.length_bound }
 
-pub returns-then-kind-eq-PRODUCT : goal.returns-then-kind-eq-PRODUCT
-returns-then-kind-eq-PRODUCT c =
+pub returns-in-5 : goal.returns-in-5
+returns-in-5 c =
     let asked = c.requires in
     let facts = row-explained c.args.plan.now asked.plan_length_in_bounds asked.plan_value c.args.r asked.r_bound c.row-words.ensures.result_value in
-    c.product_reason.ensures ∙ ap₂ product_number c.operand-left.ensures.value c.operand-right.ensures.value ∙ sym (facts.product c.if-kind-eq-PRODUCT.true)
+    c.product_reason.ensures ∙ ap₂ product_number c.operand-left.ensures.value c.operand-right.ensures.value ∙ sym (facts.product c.in-5.is)
 
-pub returns-then-kind-eq-RAISE : goal.returns-then-kind-eq-RAISE
-returns-then-kind-eq-RAISE c =
+pub returns-in-8 : goal.returns-in-8
+returns-in-8 c =
     let asked = c.requires in
     let facts = row-explained c.args.plan.now asked.plan_length_in_bounds asked.plan_value c.args.r asked.r_bound c.row-words.ensures.result_value in
-    c.raise_reason.ensures ∙ ap raise_number c.operand-right.ensures.value ∙ sym (facts.raise c.if-kind-eq-RAISE.true)
+    c.raise_reason.ensures ∙ ap raise_number c.operand-right.ensures.value ∙ sym (facts.raise c.in-8.is)
 
-pub returns : goal.returns
-returns c =
+pub returns-in_default : goal.returns-in_default
+returns-in_default c =
     let asked = c.requires in
     let facts = row-explained c.args.plan.now asked.plan_length_in_bounds asked.plan_value c.args.r asked.r_bound c.row-words.ensures.result_value in
     c.sum_reason.ensures ∙ ap₂ sum_number c.operand-left.ensures.value c.operand-right.ensures.value

@@ -9,6 +9,11 @@ pub bounds-plan-0 : goal.bounds-plan-0
 bounds-plan-0 c =
     omega (arith, (accepted c.args.plan.now c.requires.plan_value).0)
 
+pub plan_cost-cost-requires : goal.plan_cost-cost-requires
+plan_cost-cost-requires c =
+    let (long, sound) = accepted c.args.plan.now c.requires.plan_value in
+    record { plan_length_in_bounds = long; plan_value = sound }
+
 pub write_job_line-at-requires : goal.write_job_line-at-requires
 write_job_line-at-requires c = omega arith
 
@@ -20,11 +25,11 @@ write_rows-requires c = record { plan_value = c.requires.plan_value; texts_withi
 
 pub returns-in-Tables : goal.returns-in-Tables
 returns-in-Tables c =
-    plan-printed c.args.n c.args.formula.now c.args.plan.now c.args.table.now c.requires.plan_value
-    c.cost-cost.ensures c.write_job_line-at.ensures.wrote c.in-Tables.is
+    plan-printed c.args.n c.args.formula.now c.args.plan.now c.args.table.now
+    c.plan_cost-cost.ensures.value c.write_job_line-at.ensures.wrote c.in-Tables.is
     c.print_points.ensures.wrote c.print_points.ensures.plan_after c.print_points.ensures.table_after
 
 pub returns-in-Reasons : goal.returns-in-Reasons
 returns-in-Reasons c =
-    plan-printed c.args.n c.args.formula.now c.args.plan.now c.args.table.now c.requires.plan_value
-    c.cost-cost.ensures c.write_job_line-at.ensures.wrote c.in-Reasons.is c.write_rows.ensures refl refl
+    plan-printed c.args.n c.args.formula.now c.args.plan.now c.args.table.now
+    c.plan_cost-cost.ensures.value c.write_job_line-at.ensures.wrote c.in-Reasons.is c.write_rows.ensures refl refl

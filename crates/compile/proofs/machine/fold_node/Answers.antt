@@ -6,148 +6,74 @@ use borrow.Author.Rules.{rules}
 use Rattle.compile.proofs.machine.fold_node.Goals as goal
 
 pub overflow_add-result : goal.overflow_add-result
-overflow_add-result c =
-    let p = c.args.plan.now in
-    let end = c.args.end in
-    let start = c.args.start in
-    let step = c.args.step in
-    let long = c.requires.plan_length_in_bounds in
-    let comp = c.requires.at_node.4 in
-    let work = c.requires.at_node.5 in
-    omega (arith, few-rows start step p end long comp work)
+overflow_add-result c = omega (arith, few-rows _ _ _ _ (omega arith) c.requires.4 c.requires.5)
 
 pub overflow_add-result-then-kind-eq-VARIABLE : goal.overflow_add-result-then-kind-eq-VARIABLE
-overflow_add-result-then-kind-eq-VARIABLE c =
-    let p = c.args.plan.now in
-    let end = c.args.end in
-    let start = c.args.start in
-    let step = c.args.step in
-    let long = c.requires.plan_length_in_bounds in
-    let comp = c.requires.at_node.4 in
-    let work = c.requires.at_node.5 in
-    omega (arith, few-rows start step p end long comp work)
+overflow_add-result-then-kind-eq-VARIABLE c = omega (arith, few-rows _ _ _ _ (omega arith) c.requires.4 c.requires.5)
 
 pub put_pair-requires : goal.put_pair-requires
-put_pair-requires c = let p = c.args.plan.now in
-    let end = c.args.end in
-    let start = c.args.start in
-    let step = c.args.step in
-    let long = c.requires.plan_length_in_bounds in
-    let comp = c.requires.at_node.4 in
-    let work = c.requires.at_node.5 in record { plan_length_in_bounds = long; r_lt_most_rows = few-rows start step p end long comp work }
+put_pair-requires c = few-rows _ _ _ _ (omega arith) c.requires.4 c.requires.5
 
 pub returns-then-kind-eq-NUMBER : goal.returns-then-kind-eq-NUMBER
 returns-then-kind-eq-NUMBER c =
-    let p = c.args.plan.now in
-    let end = c.args.end in
-    let start = c.args.start in
-    let step = c.args.step in
-    let long = c.requires.plan_length_in_bounds in
-    λ t words first_byte end_byte comp work. number_pushed start step p end long comp work c.if-kind-eq-NUMBER.true c.put_pair.ensures
+    λ t words first_byte end_byte comp work. number_pushed _ _ _ _ (omega arith) comp work c.if-kind-eq-NUMBER.true c.put_pair.ensures
 
 pub put_pair-requires-then-kind-eq-VARIABLE : goal.put_pair-requires-then-kind-eq-VARIABLE
-put_pair-requires-then-kind-eq-VARIABLE c =
-    let p = c.args.plan.now in
-    let end = c.args.end in
-    let start = c.args.start in
-    let step = c.args.step in
-    let long = c.requires.plan_length_in_bounds in
-    let comp = c.requires.at_node.4 in
-    let work = c.requires.at_node.5 in
-    record { plan_length_in_bounds = long; r_lt_most_rows = few-rows start step p end long comp work }
+put_pair-requires-then-kind-eq-VARIABLE c = few-rows _ _ _ _ (omega arith) c.requires.4 c.requires.5
 
 pub returns-then-kind-eq-VARIABLE : goal.returns-then-kind-eq-VARIABLE
 returns-then-kind-eq-VARIABLE c =
-    let p = c.args.plan.now in
-    let end = c.args.end in
-    let start = c.args.start in
-    let step = c.args.step in
-    let long = c.requires.plan_length_in_bounds in
-    λ t words first_byte end_byte comp work. variable_pushed start step p end long comp work c.if-kind-eq-VARIABLE.true (search rules) (search rules)
+    λ t words first_byte end_byte comp work. variable_pushed _ _ _ _ (omega arith) comp work c.if-kind-eq-VARIABLE.true (search rules) (search rules)
     c.put_pair-then-kind-eq-VARIABLE.ensures
 
 pub first_row-top-requires : goal.first_row-top-requires
 first_row-top-requires c =
-    let p = c.args.plan.now in
-    let end = c.args.end in
-    let start = c.args.start in
-    let step = c.args.step in
-    let long = c.requires.plan_length_in_bounds in
-    let comp = c.requires.at_node.4 in
-    let work = c.requires.at_node.5 in record {
-      plan_length_in_bounds = long;
-      end_le_most_rows = omega (arith, few-rows start step p end long comp work);
-      ends = top_asked start step p end long comp work c.if-kind-eq-NUMBER.false c.if-kind-eq-VARIABLE.false;
+    let comp = c.requires.4 in
+    let work = c.requires.5 in record {
+      end_le_most_rows = omega (arith, few-rows _ _ _ _ (omega arith) comp work);
+      ends = top_asked _ _ _ _ (omega arith) comp work c.if-kind-eq-NUMBER.false c.if-kind-eq-VARIABLE.false;
     }
 
 pub fold_minus-requires : goal.fold_minus-requires
-fold_minus-requires c = let p = c.args.plan.now in
-    let end = c.args.end in
-    let start = c.args.start in
-    let step = c.args.step in
-    let long = c.requires.plan_length_in_bounds in
-    let comp = c.requires.at_node.4 in
-    let work = c.requires.at_node.5 in record {
-      plan_length_in_bounds = long;
-      end_lt_most_rows = few-rows start step p end long comp work;
-      one = minus_asked start step p end long comp work c.first_row-top.ensures
-          c.if-kind-eq-MINUS.true;
+fold_minus-requires c =
+    let comp = c.requires.4 in
+    let work = c.requires.5 in record {
+      end_lt_most_rows = few-rows _ _ _ _ (omega arith) comp work;
+      one = minus_asked _ _ _ _ (omega arith) comp work c.first_row-top.ensures c.if-kind-eq-MINUS.true;
     }
 
 pub returns-then-kind-eq-MINUS : goal.returns-then-kind-eq-MINUS
 returns-then-kind-eq-MINUS c =
-    let p = c.args.plan.now in
-    let end = c.args.end in
-    let start = c.args.start in
-    let step = c.args.step in
-    let long = c.requires.plan_length_in_bounds in
-    λ t words first_byte end_byte comp work. minus-folded start step p end long comp work c.first_row-top.ensures
+    λ t words first_byte end_byte comp work. minus-folded _ _ _ _ (omega arith) comp work c.first_row-top.ensures
     c.if-kind-eq-MINUS.true c.fold_minus.ensures
 
 pub fold_power-requires : goal.fold_power-requires
-fold_power-requires c = let p = c.args.plan.now in
-    let end = c.args.end in
-    let start = c.args.start in
-    let step = c.args.step in
-    let long = c.requires.plan_length_in_bounds in
-    let comp = c.requires.at_node.4 in
-    let work = c.requires.at_node.5 in
-    let power = power_asked start step p end long comp work c.first_row-top.ensures c.if-kind-eq-LITERAL_POWER.true in record { plan_length_in_bounds = long; end_lt_most_rows = few-rows start step p end long comp work; n_bound = power.1; one = power.0 }
+fold_power-requires c =
+    let comp = c.requires.4 in
+    let work = c.requires.5 in
+    let power = power_asked _ _ _ _ (omega arith) comp work c.first_row-top.ensures c.if-kind-eq-LITERAL_POWER.true in record {
+      end_lt_most_rows = few-rows _ _ _ _ (omega arith) comp work;
+      n_bound = power.1;
+      one = power.0;
+    }
 
 pub returns-then-kind-eq-LITERAL_POWER : goal.returns-then-kind-eq-LITERAL_POWER
 returns-then-kind-eq-LITERAL_POWER c =
-    let p = c.args.plan.now in
-    let end = c.args.end in
-    let start = c.args.start in
-    let step = c.args.step in
-    let long = c.requires.plan_length_in_bounds in
-    λ t words first_byte end_byte comp work. power-folded start step p end long comp work c.first_row-top.ensures
+    λ t words first_byte end_byte comp work. power-folded _ _ _ _ (omega arith) comp work c.first_row-top.ensures
     c.if-kind-eq-LITERAL_POWER.true c.fold_power.ensures
 
 pub first_row-below-requires : goal.first_row-below-requires
 first_row-below-requires c =
-    let p = c.args.plan.now in
-    let end = c.args.end in
-    let start = c.args.start in
-    let step = c.args.step in
-    let long = c.requires.plan_length_in_bounds in
-    let comp = c.requires.at_node.4 in
-    let work = c.requires.at_node.5 in
-    let below = below_asked start step p end long comp work c.first_row-top.ensures
+    let below = below_asked _ _ _ _ (omega arith) c.requires.4 c.requires.5 c.first_row-top.ensures
     c.if-kind-eq-NUMBER.false c.if-kind-eq-VARIABLE.false c.if-kind-eq-MINUS.false
-    c.if-kind-eq-LITERAL_POWER.false in record { plan_length_in_bounds = long; end_le_most_rows = below.0; ends = below.1 }
+    c.if-kind-eq-LITERAL_POWER.false in record { end_le_most_rows = below.0; ends = below.1 }
 
 pub fold_both-requires : goal.fold_both-requires
-fold_both-requires c = let p = c.args.plan.now in
-    let end = c.args.end in
-    let start = c.args.start in
-    let step = c.args.step in
-    let long = c.requires.plan_length_in_bounds in
-    let comp = c.requires.at_node.4 in
-    let work = c.requires.at_node.5 in record {
-      plan_length_in_bounds = long;
-      end_lt_most_rows = few-rows start step p end long comp work;
-      two = both_asked start step p end long comp work
+fold_both-requires c =
+    let comp = c.requires.4 in
+    let work = c.requires.5 in record {
+      end_lt_most_rows = few-rows _ _ _ _ (omega arith) comp work;
+      two = both_asked _ _ _ _ (omega arith) comp work
           c.first_row-top.ensures c.if-kind-eq-NUMBER.false
           c.if-kind-eq-VARIABLE.false c.if-kind-eq-MINUS.false
           c.if-kind-eq-LITERAL_POWER.false c.first_row-below.ensures;
@@ -155,12 +81,7 @@ fold_both-requires c = let p = c.args.plan.now in
 
 pub returns : goal.returns
 returns c =
-    let p = c.args.plan.now in
-    let end = c.args.end in
-    let start = c.args.start in
-    let step = c.args.step in
-    let long = c.requires.plan_length_in_bounds in
-    λ t words first_byte end_byte comp work. both-folded start step p end long comp work c.first_row-top.ensures
+    λ t words first_byte end_byte comp work. both-folded _ _ _ _ (omega arith) comp work c.first_row-top.ensures
     c.if-kind-eq-NUMBER.false
     c.if-kind-eq-VARIABLE.false
     c.if-kind-eq-MINUS.false c.if-kind-eq-LITERAL_POWER.false

@@ -9,19 +9,19 @@ overflow_sub-root c =
     let pre = c.requires in
     let (t, words, comp, work) = pre.at_place in
     let grown = c.fold_node-behind.ensures t words _ _ comp work in
-    omega (arith, (root_row args.start args.step args.plan.now args.end pre.plan_length_in_bounds grown).0)
+    omega (arith, (root_row args.grid.start args.grid.step args.plan.now args.end (omega arith) grown).0)
 
 pub put_span-requires : goal.put_span-requires
 put_span-requires c = let args = c.args in
     let pre = c.requires in
     let (t, words, comp, work) = pre.at_place in
     let grown = c.fold_node-behind.ensures t words _ _ comp work in
-    let rows = root_row args.start args.step args.plan.now args.end pre.plan_length_in_bounds grown in record { plan_length_in_bounds = omega (arith, pre.plan_length_in_bounds, c.fold_node-behind.auto); r_lt_most_rows = omega (arith, rows.0, rows.1, grown.few) }
+    let rows = root_row args.grid.start args.grid.step args.plan.now args.end (omega arith) grown in omega (arith, rows.0, rows.1, grown.few)
 
 pub returns : goal.returns
 returns c =
     let args = c.args in
     let pre = c.requires in
     λ t words comp work.
-    spanned args.start args.step args.plan.now args.end pre.plan_length_in_bounds
+    spanned args.grid.start args.grid.step args.plan.now args.end (omega arith)
     (c.fold_node-behind.ensures t words _ _ comp work) comp c.put_span.ensures
