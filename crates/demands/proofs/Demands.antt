@@ -26,9 +26,7 @@ use Rattle.formula.specs.Value.{direct_value}
 use Rattle.formula.specs.Refusals.{count, TooDeep, StopsAt, Part, Fault, too_long, too_deep, not-grammar, Refused, Accepted, Reading}
 use Rattle.formula_scan.proofs.Answers.{accepted_fits, accepted_base, reading_unique}
 use Rattle.formula_scan.proofs.GrammarScan.{unambiguous, decided}
-use Rattle.chain.specs.declared.ChainAnswer.{ChainAnswer}
-use Rattle.chain.specs.declared.ShiftAnswer.{ShiftAnswer}
-use Rattle.chain.specs.declared.ValueAnswer.{ValueAnswer}
+use Rattle.chain.specs.Answer.{ChainAnswer, ShiftAnswer, ValueAnswer}
 use Rattle.chain.specs.Chain as Chain
 use Rattle.chain.specs.SumChain.{sum_at}
 use Rattle.chain.specs.SumChain as SumChain

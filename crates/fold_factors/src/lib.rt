@@ -9,7 +9,7 @@ ghost use Rattle.plan.specs.Plan.{row};
 ghost use Rattle.fold_operands.specs.OperandRows.{is_constant_row, is_sum_row, is_product_row, product_in};
 
 use chain_arrays::LONGEST;
-use fold_operands::{is_constant, is_sum, kind, length_of};
+use fold_operands::{chain_in, is_constant, is_sum, kind, length_of};
 use fold_rows::product_rows;
 use plan::PlanWords;
 use plan_rows::kinds::{CONSTANT, PRODUCT_CHAIN};
@@ -20,8 +20,7 @@ pub fn filled(plan: &PlanWords, r: usize) -> [u64; 17]
     requires r_bound { word_a (row plan.now r) ≤ 16 }
     ensures { result ≡ product_in (row plan.now r) }
 {
-    let length = length_of(plan, r);
-    product_rows::with_ones(fold_rows::elements(plan, r), length)
+    product_rows::with_ones(chain_in(plan, r))
 }
 
 // One of the rows a and b is the constant 0.

@@ -7,7 +7,8 @@ ghost use Rattle.plan.specs.Measures.{most_rows};
 ghost use Rattle.fold.specs.Folding.{fold_minus};
 ghost use Rattle.fold_operands.specs.Operands.{One, Folds};
 
-use fold_operands::{append, kind, length_of, put_sum};
+use chain::Chain;
+use fold_operands::{append, chain_in, kind, put_sum};
 use fold_rows::product_rows;
 use plan::PlanWords;
 use plan_rows::kinds::{MINUS, PRODUCT_CHAIN};
@@ -20,18 +21,18 @@ pub fn fold_minus(plan: &mut PlanWords, first: usize, end: usize) -> usize
 {
     let root = end - 1;
     let root_kind = kind(plan, root);
-    let f = fold_rows::elements(plan, root);
-    let k = length_of(plan, root);
+    let f = chain_in(plan, root);
     if root_kind < PRODUCT_CHAIN {
-        put_sum(
-            plan,
-            first,
-            chain_calls::difference(chain_arrays::zeros(), 0, f, k),
-        );
+        let zero = Chain {
+            length: 0,
+            elements: chain_arrays::zeros(),
+        };
+        let minus = chain_calls::difference(zero, f).unwrap();
+        put_sum(plan, first, minus);
         return first + 1;
     }
     if root_kind == PRODUCT_CHAIN {
-        let mut negated = product_rows::with_ones(f, k);
+        let mut negated = product_rows::with_ones(f);
         negated[0] = negated[0].wrapping_neg();
         product_rows::put_product(plan, first, negated);
         return first + 1;

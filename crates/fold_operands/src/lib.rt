@@ -4,14 +4,14 @@
 
 ghost use Rattle.std.specs.Prelude.{◌≡◌, cond, [], ◌∷◌, ◌++◌, ◌<◌, eqb};
 ghost use Rattle.plan.specs.Measures.{most_rows};
-ghost use Rattle.plan.specs.Row.{kind, word_a, first_element};
+ghost use Rattle.plan.specs.Row.{kind, word_a, elements, first_element};
 ghost use Rattle.plan.specs.Plan.{row};
 ghost use Rattle.fold.specs.Folded.{constant};
 ghost use Rattle.fold.specs.Layout.{row_words};
 ghost use Rattle.fold_operands.specs.OperandRows.{is_constant_row, is_sum_row};
 ghost use Rattle.fold_rows.specs.Standing.{with_row, placed, no_span};
 
-use chain::ChainAnswer;
+use chain::Chain;
 use plan::{ELEMENTS_START, PlanWords};
 use plan_rows::kinds::{CONSTANT, SUM_CHAIN};
 use plan_rows::word;
@@ -39,6 +39,18 @@ pub fn length_of(plan: &PlanWords, r: usize) -> usize
     ensures { result ≡ word_a (row plan.now r) }
 {
     word(plan, r, 1) as usize
+}
+
+// The chain in row r; a constant is one of length 0.
+pub fn chain_in(plan: &PlanWords, r: usize) -> Chain
+    requires { r < most_rows }
+    ensures has_length { result.length ≡ word_a (row plan.now r) }
+    ensures has_elements { result.elements ≡ elements (row plan.now r) }
+{
+    Chain {
+        length: length_of(plan, r),
+        elements: fold_rows::elements(plan, r),
+    }
 }
 
 // Element 0 of row r.
@@ -74,12 +86,11 @@ pub fn append(plan: &mut PlanWords, end: usize, kind: u64, a: u64, b: u64)
 }
 
 // The row of a trimmed sum chain.
-pub fn put_sum(plan: &mut PlanWords, r: usize, f: ChainAnswer)
+pub fn put_sum(plan: &mut PlanWords, r: usize, f: Chain)
     requires { r < most_rows }
     ensures { plan.new ≡ with_row plan.old r (cond (eqb f.length 0) 0 1 ∷ f.length ∷ 0 ∷ f.elements ++ 0 ∷ 0 ∷ []) }
 {
-    let elements = f.elements;
-    fold_rows::put_chain(plan, r, SUM_CHAIN, f.length, elements);
+    fold_rows::put_chain(plan, r, SUM_CHAIN, f);
 }
 
 // The row of the constant c.

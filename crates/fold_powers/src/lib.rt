@@ -8,24 +8,24 @@ ghost use Rattle.plan.specs.Row.{kind};
 ghost use Rattle.plan.specs.Plan.{row};
 ghost use Rattle.chain.specs.Chain.{words, trimmed};
 ghost use Rattle.chain.specs.SumChain.{power};
-ghost use Rattle.chain.specs.Answer.{answered, chain};
+ghost use Rattle.chain.specs.Answer.{as_chain_answer, answered, chain};
 ghost use Rattle.fold.specs.Folding.{fold_power};
 ghost use Rattle.fold_operands.specs.Operands.{One, Folds};
 
-use chain::ChainAnswer;
+use chain::Chain;
 use chain_arrays::{LONGEST, Power, accepted, word_by_word};
-use fold_operands::{append, first_element, kind, length_of, put_constant, put_sum};
+use fold_operands::{append, chain_in, first_element, kind, put_constant, put_sum};
 use fold_rows::product_rows;
 use plan::PlanWords;
 use plan_rows::kinds::{CONSTANT, LITERAL_POWER, PRODUCT_CHAIN, SUM_CHAIN};
 
-// The chain f of length k to the n, trimmed.
-fn power_of(f: [u64; 17], k: usize, n: u64) -> ChainAnswer
+// The chain to the n, trimmed.
+fn power_of(f: Chain, n: u64) -> Chain
     requires le_n { 1 ≤ n }
-    requires n_bound { k * n ≤ 16 }
-    ensures { result ≡ answered (chain (trimmed 0 (words 64 (power (take (k + 1) f) n)))) }
+    requires n_bound { f.length * n ≤ 16 }
+    ensures { as_chain_answer (Ok result) ≡ answered (chain (trimmed 0 (words 64 (power (take (f.length + 1) f.elements) n)))) }
 {
-    let kept = chain_arrays::kept(f, k);
+    let kept = chain_arrays::kept(f.elements, f.length);
     accepted(chain_values::power(kept, n))
 }
 
@@ -40,15 +40,14 @@ fn fold_high_power(plan: &mut PlanWords, first: usize, end: usize, n: u64) -> us
 {
     let root = end - 1;
     let root_kind = kind(plan, root);
-    let k = length_of(plan, root);
-    let f = fold_rows::elements(plan, root);
+    let f = chain_in(plan, root);
     if root_kind == PRODUCT_CHAIN {
-        let powers = word_by_word::<Power>(product_rows::with_ones(f, k), [n; 17]);
+        let powers = word_by_word::<Power>(product_rows::with_ones(f), [n; 17]);
         product_rows::put_product(plan, first, powers);
         return first + 1;
     }
-    if root_kind == SUM_CHAIN && k * n as usize <= LONGEST {
-        put_sum(plan, first, power_of(f, k, n));
+    if root_kind == SUM_CHAIN && f.length * n as usize <= LONGEST {
+        put_sum(plan, first, power_of(f, n));
         return first + 1;
     }
     append(plan, end, LITERAL_POWER, root as u64, n);

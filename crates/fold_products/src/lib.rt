@@ -17,7 +17,7 @@ ghost use Rattle.fold_operands.specs.Operands.{Two, FoldsBoth};
 
 use chain_arrays::Product;
 use fold_factors::{are_products, are_sums, filled, has_zero};
-use fold_operands::{Pair, append, is_constant, length_of, put_constant, put_sum};
+use fold_operands::{Pair, append, chain_in, is_constant, put_constant, put_sum};
 use fold_rows::{moved_rows, product_rows};
 use plan::PlanWords;
 use plan_rows::kinds::PRODUCT;
@@ -33,11 +33,8 @@ fn put_product_of_sums(plan: &mut PlanWords, r: usize, a: usize, b: usize)
         ≡ placed plan.old r no_span
         (trimmed_sum (words 64 (product (sum_in (row plan.old a)) (sum_in (row plan.old b))))) }
 {
-    let f = fold_rows::elements(plan, a);
-    let k = length_of(plan, a);
-    let g = fold_rows::elements(plan, b);
-    let l = length_of(plan, b);
-    put_sum(plan, r, chain_calls::product(f, k, g, l));
+    let product = chain_calls::product(chain_in(plan, a), chain_in(plan, b)).unwrap();
+    put_sum(plan, r, product);
 }
 
 // The product of the product chains in rows a and b, in row r.

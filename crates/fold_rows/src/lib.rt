@@ -12,6 +12,7 @@ ghost use Rattle.plan.specs.Plan.{row};
 ghost use Rattle.formula.specs.Tree.{span};
 ghost use Rattle.fold_rows.specs.Standing.{with_row, with_span};
 
+use chain::Chain;
 use plan::{ELEMENTS_START, PlanWords, ROW_WORDS, SPAN_START};
 use plan_rows::kinds::CONSTANT;
 use plan_rows::row;
@@ -60,11 +61,11 @@ pub fn write(plan: &mut [u64], r: usize, kind: u64, a: u64, b: u64, elements: [u
     write_row(&mut plan[at..at + ROW_WORDS], kind, a, b, elements);
 }
 
-// The row of a chain of the given kind with the elements 0 to last; a chain of length 0 is a constant.
-pub fn put_chain(plan: &mut PlanWords, r: usize, chain: u64, last: usize, elements: [u64; 17])
+// The row of a chain of the given kind; a chain of length 0 is a constant.
+pub fn put_chain(plan: &mut PlanWords, r: usize, kind: u64, f: Chain)
     requires { r < most_rows }
-    ensures { plan.new ≡ with_row plan.old r (cond (eqb last 0) 0 chain ∷ last ∷ 0 ∷ elements ++ 0 ∷ 0 ∷ []) }
+    ensures { plan.new ≡ with_row plan.old r (cond (eqb f.length 0) 0 kind ∷ f.length ∷ 0 ∷ f.elements ++ 0 ∷ 0 ∷ []) }
 {
-    let kind = if last == 0 { CONSTANT } else { chain };
-    write(plan, r, kind, last as u64, 0, elements);
+    let row_kind = if f.length == 0 { CONSTANT } else { kind };
+    write(plan, r, row_kind, f.length as u64, 0, f.elements);
 }

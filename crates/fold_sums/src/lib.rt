@@ -4,16 +4,16 @@
 
 ghost use Rattle.std.specs.Prelude.{◌≡◌, ◌&&◌, ◌≤◌, ◌<◌};
 ghost use Rattle.plan.specs.Measures.{most_rows};
-ghost use Rattle.chain.specs.Answer.{answered};
+ghost use Rattle.chain.specs.Answer.{as_chain_answer, answered};
 ghost use Rattle.plan.specs.Row.{word_a, elements};
 ghost use Rattle.plan.specs.Plan.{row};
 ghost use Rattle.fold_operands.specs.OperandRows.{is_sum_row};
 ghost use Rattle.fold_operands.specs.Operands.{One, Two, Folds, FoldsBoth};
 ghost use Rattle.fold_sums.specs.ByKind.{row_kind, fold_sum_or_difference, both_outcome, fold_alone};
 
-use chain::ChainAnswer;
+use chain::{Chain, Refusal};
 use fold_minus::fold_minus;
-use fold_operands::{Pair, append, is_constant, is_sum, length_of, put_sum};
+use fold_operands::{Pair, append, chain_in, is_constant, is_sum, put_sum};
 use fold_rows::moved_rows;
 use plan::PlanWords;
 use plan_rows::kinds::{DIFFERENCE, SUM};
@@ -47,19 +47,17 @@ fn both_sums(plan: &PlanWords, a: usize, b: usize) -> bool
 }
 
 // The chains of two rows, a constant standing as f0: "element by element", "and the same under -".
-fn chain_of_both(plan: &PlanWords, operator: Additive, a: usize, b: usize) -> ChainAnswer
+fn chain_of_both(plan: &PlanWords, operator: Additive, a: usize, b: usize) -> Result<Chain, Refusal>
     requires a_lt_most_rows { a < most_rows }
     requires b_lt_most_rows { b < most_rows }
-    ensures { result ≡ answered (both_outcome 64 (row_kind operator) (elements (row plan.now a)) (word_a (row plan.now a))
+    ensures { as_chain_answer result ≡ answered (both_outcome 64 (row_kind operator) (elements (row plan.now a)) (word_a (row plan.now a))
         (elements (row plan.now b)) (word_a (row plan.now b))) }
 {
-    let f = fold_rows::elements(plan, a);
-    let k = length_of(plan, a);
-    let g = fold_rows::elements(plan, b);
-    let l = length_of(plan, b);
+    let f = chain_in(plan, a);
+    let g = chain_in(plan, b);
     match operator {
-        Additive::Sum => chain_calls::sum(f, k, g, l),
-        Additive::Difference => chain_calls::difference(f, k, g, l),
+        Additive::Sum => chain_calls::sum(f, g),
+        Additive::Difference => chain_calls::difference(f, g),
     }
 }
 
@@ -86,7 +84,7 @@ pub fn fold_sum(plan: &mut PlanWords, operator: Additive, pair: Pair) -> usize
     let left_root = middle - 1;
     let right_root = end - 1;
     if both_sums(plan, left_root, right_root) {
-        let both = chain_of_both(plan, operator, left_root, right_root);
+        let both = chain_of_both(plan, operator, left_root, right_root).unwrap();
         put_sum(plan, left, both);
         return left + 1;
     }

@@ -22,6 +22,8 @@ use reason::{Explained, Reason, Seen};
 use reason_numbers::{minus_reason, power_reason, product_reason, raise_reason, sum_reason};
 
 // What the rules see of row r of a sound plan.
+// Kept: `plan` is a slice here and in `row_reason`: `reason` promises `Explaining` of all words lent, so an array of a plan's words would need laws that
+// rows and trees are those of the first words.
 fn operand(plan: &[u64], r: usize) -> Seen
     requires plan_length_in_bounds { plan_length ≤ length plan.now }
     requires plan_value { sound plan.now ≡ true }

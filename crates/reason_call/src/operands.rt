@@ -18,14 +18,8 @@ fn trimmed_length(row: &[u64], unit: u64) -> usize
     ensures value { result ≡ length (trimmed unit (chain_of row.now)) - 1 }
     ensures upper_bound { result ≤ 16 }
 {
-    let mut last = row[1] as usize;
-    while 0 < last {
-        if row[ELEMENTS_START + last] != unit {
-            return last;
-        }
-        last -= 1;
-    }
-    0
+    let last = ELEMENTS_START + row[1] as usize;
+    chain_arrays::trimmed_length(&row[ELEMENTS_START..=last], unit)
 }
 
 // A chain of length 0 is a constant.

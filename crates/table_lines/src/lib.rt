@@ -85,6 +85,8 @@ fn end_defaults(line: &[u8], defaults: &mut [u8], out: &mut [u8]) -> LineDone
 }
 
 // A job line, with the defaults that were kept.
+// Kept: the buffers are parameters, here and in `end_line`. A struct that lends them shows what it leaves as nested pairs (`lent.exit.1.1.0.now`), and lent as
+// `&mut` asks a clause a buffer that it is still the same one.
 fn end_job<'a>(
     tool: Tool,
     progress: Progress,

@@ -70,6 +70,7 @@ fn hold(line: &mut [u8], held: usize, more: &[u8]) -> usize
 
 // One step: the input up to its first line feed, or all of it where it has none. Lend the buffers again as they were left; `plan`, `table` and `out`
 // may be altered between steps.
+// Kept: the buffers are parameters, as the contract of the call names them; `last_line` is given them as they came.
 pub fn step(
     tool: Tool,
     progress: Progress,

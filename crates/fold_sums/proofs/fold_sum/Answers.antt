@@ -2,11 +2,13 @@
 use native.Mathlib.Omega.{arith}
 use Rattle.fold_operands.proofs.OperandLaws.{operand_some}
 use Rattle.fold_operands.proofs.Leaving.{room_of_both}
-use Rattle.std.proofs.Common.{◌-◌, [], ap, ◌∙◌}
+use Rattle.std.proofs.Common.{◌-◌, [], sym, ap, ◌∙◌}
 use Rattle.fold.specs.Layout.{row_words}
 use Rattle.fold_rows.specs.Standing.{with_row, no_span}
+use Rattle.chain.specs.Answer.{as_chain_answer}
+use Rattle.chain.proofs.Decoding.{accepted-ok}
 use Rattle.fold_sums.proofs.SumRules.{additive}
-use Rattle.fold_sums.proofs.SumOperands.{leaves-chain, leaves-left, moved_down_lem, leaves-alone, leaves-row}
+use Rattle.fold_sums.proofs.SumOperands.{both-accepted, leaves-chain, leaves-left, moved_down_lem, leaves-alone, leaves-row}
 use Rattle.fold_sums.proofs.fold_sum.Goals as goal
 
 pub overflow_sub-left_root : goal.overflow_sub-left_root
@@ -15,11 +17,19 @@ overflow_sub-left_root c = omega (arith, operand_some c.requires.two.3.first)
 pub overflow_sub-right_root : goal.overflow_sub-right_root
 overflow_sub-right_root c = omega (arith, operand_some c.requires.two.3.second)
 
+pub unwrap-both-requires : goal.unwrap-both-requires
+unwrap-both-requires c =
+    let (s, a, b, o) = c.requires.two in
+    rw (accepted-ok _ _
+    (both-accepted (additive c.args.operator) s a b o c.both_sums.ensures c.if-both_sums.true c.chain_of_both.ensures)).1
+
 pub returns-then-both_sums : goal.returns-then-both_sums
 returns-then-both_sums c =
     λ s a b o.
     leaves-chain (additive c.args.operator) s a b o c.both_sums.ensures c.if-both_sums.true
-    c.chain_of_both-both.ensures c.put_sum.ensures
+    (ap as_chain_answer (sym c.unwrap-both.ensures)
+    ∙ both-accepted (additive c.args.operator) s a b o c.both_sums.ensures c.if-both_sums.true c.chain_of_both.ensures)
+    c.put_sum.ensures
 
 pub returns-then-is_constant : goal.returns-then-is_constant
 returns-then-is_constant c =

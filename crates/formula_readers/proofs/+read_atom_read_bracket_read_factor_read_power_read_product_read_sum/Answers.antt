@@ -55,9 +55,6 @@ read_factor-returns-in_err-power t c =
 pub read_factor-returns : goal.read_factor-returns
 read_factor-returns t c = factor_got c.args.text.now c.args.at c.after_minus_signs-first.result c.args.nodes c.args.fault _ (as_parsed c.in_ok-power.power) _ c.after_minus_signs-first.ensures c.in_ok-power.ensures refl _ _ c.negated.ensures.value c.negated.ensures.tree_after
 
-pub read_power-returns-then-byte_at-ne94 : goal.read_power-returns-then-byte_at-ne94
-read_power-returns-then-byte_at-ne94 t c = power-plain c.args.text.now c.args.at c.args.nodes c.args.fault _ _ _ (got c.in_ok-base.ensures refl) (λ e. c.if-byte_at-ne94.true (c.byte_at.ensures ∙ e))
-
 pub read_power-returns-then-is_digit : goal.read_power-returns-then-is_digit
 read_power-returns-then-is_digit t c = power_literal c.args.text.now c.args.at c.args.nodes c.args.fault _ (as_parsed c.in_ok-base.base) _ (got c.in_ok-base.ensures refl) (omega (arith, c.byte_at.ensures)) (as_numeral c.read_number-number.result) c.read_number-number.ensures _ _ c.literal_power.ensures.value c.literal_power.ensures.tree_after
 
@@ -116,3 +113,6 @@ read_sum-held-waits-requires-in-loop-right-clause-odd_bound t c = omega (arith, 
 
 pub read_sum-loop-right-preserved : goal.read_sum-loop-right-preserved
 read_sum-loop-right-preserved t c = record { so_far = sum_goes_on (sum-joined c.loop-right.invariant.so_far c.in-Ok.ensures (as_left c.left_of-left.result) (c.left_of-left.ensures ∙ c.loop-right.invariant.waits) refl (as_parsed c.joined_sum-whole.result) _ c.joined_sum-whole.ensures.value c.joined_sum-whole.ensures.tree_after) (sym (ap (λ b. eqb b 43 || eqb b 45) c.byte_at-sign.ensures) ∙ sym c.is_sign.ensures ∙ c.if-not-is_sign.false) _ _ (ap (λ (x : Left). x.sign) c.held-waits-in-loop-right.ensures ∙ c.byte_at-sign.ensures) c.beyond-next.ensures; waits = waits_so _ _ _ _ (as_parsed c.beyond-next.result) (ap (λ (x : Left). x.first) (c.left_of-left.ensures ∙ c.loop-right.invariant.waits)) c.held-waits-in-loop-right.ensures; same_length = c.joined_sum-whole.auto.tree ∙ c.read_product.auto.tree ∙ c.loop-right.invariant.same_length }
+
+pub read_power-returns-then-byte_at-ne94 : goal.read_power-returns-then-byte_at-ne94
+read_power-returns-then-byte_at-ne94 t c = power-plain c.args.text.now c.args.at c.args.nodes c.args.fault _ _ _ (got c.in_ok-base.ensures refl) (λ e. c.if-byte_at-ne94.true (c.byte_at.ensures ∙ e))

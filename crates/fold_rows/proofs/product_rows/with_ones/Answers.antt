@@ -5,5 +5,5 @@ use Rattle.fold_rows.proofs.product_rows.with_ones.Goals as goal
 
 pub returns : goal.returns
 returns c =
-    let args = c.args in
-    ones_put args.last args.elements (search rules) (search rules) (c.fill.ensures.after (λ y same. same))
+    let f = c.args.f in
+    ones_put f.length f.elements (search rules) (search rules) (c.fill.ensures.after (λ y same. same))
