@@ -1,5 +1,5 @@
 -- No two results of a call on plans say the same: what a contract says of an answer's numbers settles the result itself.
-use Rattle.std.proofs.Common.{◌≡◌, refl, sym, ap, ap₂, ◌∙◌, ℕ, suc, Result, Ok, Err}
+use Rattle.std.proofs.Common.{◌≡◌, refl, sym, ap, ℕ, Result, Ok, Err}
 use Rattle.plan.specs.declared.Refusal.{Refusal}
 use Rattle.plan.specs.declared.Refusal.TheVariants.{TooShort, Unsound, RootNotSum}
 use Rattle.plan.specs.declared.FilledPoints.{FilledPoints}

@@ -6,5 +6,6 @@ pub mod Plan
 pub mod Points
 pub mod Answers
 pub mod Filling
+pub mod Counting
 pub mod Calls
 pub mod Eras
