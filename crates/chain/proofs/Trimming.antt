@@ -4,7 +4,6 @@ use mathlib.Core.Bool.{Bool, true, false, cond}
 use mathlib.Core.List.{List, [], ◌∷◌}
 use Prim.Native.Nat.{ℕ, zero, suc, ◌+◌, ◌-◌, ◌*◌, ◌%◌, ◌^◌, ◌<◌, ◌≤◌}
 use native.Mathlib.Nat.{add-zero, mul-one, zero-mul, add-mod-mod, le_of_suc-le-suc, not-suc-le-zero}
-use native.Mathlib.Numerals.{add-one}
 use native.Mathlib.Omega.{arith}
 use lib.Dec.{eqb}
 use lib.ListN.{length, get_or, take}
@@ -166,49 +165,6 @@ twice_without_trailing unit (a ∷ f) = twice_with_last unit a (without_trailing
 pub trimmed_twice : (unit : ℕ) (f : List ℕ) → trimmed unit (trimmed unit f) ≡ trimmed unit f
 unfolding trimmed
 trimmed_twice unit f = ap {B = List ℕ} (λ g. value unit f ∷ g) (twice_without_trailing unit (rest f))
-
--- ---- trailing units dropped, one after the other from the top
-module _ (unit : ℕ) where
-  dropped : (g : List ℕ) (n : ℕ) → n < length g → get_or g n 0 ≡ unit → without_trailing unit (take (suc n) g) ≡ without_trailing unit (take n g)
-  unfolding without_trailing with_last
-  dropped [] n h e = absurd (not-suc-le-zero h)
-  dropped (a ∷ g) zero h e = ap {B = List ℕ} (λ b. cond b [] (a ∷ [])) (eq-eqb a unit e)
-  dropped (a ∷ g) (suc n) h e = ap (λ f. with_last unit a f) (dropped g n (le_of_suc-le-suc h) e)
-
-  stopped : (g : List ℕ) (n : ℕ) → n < length g → (get_or g n 0 ≡ unit → ⊥) → without_trailing unit (take (suc n) g) ≡ take (suc n) g
-  unfolding without_trailing with_last
-  stopped [] n h other = absurd (not-suc-le-zero h)
-  stopped (a ∷ g) zero h other = ap {B = List ℕ} (λ b. cond b [] (a ∷ [])) (ne_eqb a unit other)
-  stopped (a ∷ []) (suc n) h other = absurd (not-suc-le-zero (le_of_suc-le-suc h))
-  stopped (a ∷ b ∷ g) (suc n) h other = ap (λ f. with_last unit a f) (stopped (b ∷ g) n (le_of_suc-le-suc h) other)
-
-  pub trailing_dropped : (f : List ℕ) (last : ℕ) → 0 < last → last < length f → get_or f last 0 ≡ unit
-      → trimmed unit (take (last + 1) f) ≡ trimmed unit (take (last - 1 + 1) f)
-  unfolding trimmed
-  trailing_dropped [] last some h e = absurd (not-suc-le-zero h)
-  trailing_dropped (a ∷ f) zero some h e = absurd (not-suc-le-zero some)
-  trailing_dropped (a ∷ f) (suc n) some h e =
-      ap (λ k. trimmed unit (take k (a ∷ f))) (add-one (suc n))
-      ∙ ap {B = List ℕ} (λ g. a ∷ g) (dropped f n (le_of_suc-le-suc h) e)
-      ∙ ap (λ k. trimmed unit (take k (a ∷ f))) again
-    where
-      again : suc n ≡ suc n - 1 + 1
-      again = omega arith
-
-  pub trailing_stopped : (f : List ℕ) (last : ℕ) → 0 < last → last < length f → (get_or f last 0 ≡ unit → ⊥)
-      → trimmed unit (take (last + 1) f) ≡ take (last + 1) f
-  unfolding trimmed
-  trailing_stopped [] last some h other = absurd (not-suc-le-zero h)
-  trailing_stopped (a ∷ f) zero some h other = absurd (not-suc-le-zero some)
-  trailing_stopped (a ∷ f) (suc n) some h other =
-      ap (λ k. trimmed unit (take k (a ∷ f))) (add-one (suc n))
-      ∙ ap {B = List ℕ} (λ g. a ∷ g) (stopped f n (le_of_suc-le-suc h) other)
-      ∙ ap (λ k. take k (a ∷ f)) (sym (add-one (suc n)))
-
-  pub trailing_none : (f : List ℕ) → 0 < length f → trimmed unit (take 1 f) ≡ take 1 f
-  unfolding trimmed without_trailing
-  trailing_none [] h = absurd (not-suc-le-zero h)
-  trailing_none (a ∷ f) h = refl
 
 -- ---- the length by the last element that is not the unit
 module _ (unit : ℕ) where

@@ -14,8 +14,8 @@ use chain_arrays::{Difference, LONGEST, Operation, Sum, accepted, given, trimmed
 pub fn trim(f: Chain) -> Result<Chain, Refusal>
     ensures { as_chain_answer result ≡ answered (trim_outcome f.elements f.length) }
 {
-    let words = given(f)?;
-    Ok(accepted(words))
+    let kept = given(f)?;
+    Ok(accepted(kept))
 }
 
 // The sum or the difference.

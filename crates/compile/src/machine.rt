@@ -6,6 +6,7 @@ ghost use Rattle.fold.specs.Folded.{trimmed_sum};
 ghost use Rattle.fold_rows.specs.Standing.{placed, no_span};
 ghost use Rattle.fold_operands.specs.Operands.{Two, FoldsBoth};
 ghost use Rattle.compile.specs.Machine.{fold_both, Ends, FirstRow, AtNode, FoldsNode, AtPlace, FoldsPlace, Compilable, Written, FoldedAt};
+ghost use Rattle.formula.specs.Words.{kind_number};
 ghost use Rattle.formula.specs.Tree.{Tree, span_of};
 ghost use Rattle.fold.specs.Folding.{fold};
 ghost use Rattle.fold.specs.Layout.{plan_words};
@@ -13,10 +14,10 @@ ghost use Rattle.fold.specs.Layout.{plan_words};
 use chain::Chain;
 use fold_operands::{Pair, put_sum};
 use fold_sums::{Additive, fold_sum};
-use formula::{NUMBER, VARIABLE};
+use formula::NodeKind;
 use formula_read::SPANNED_TREE_WORDS;
 use plan::{PLAN_WORDS, PlanWords};
-use plan_rows::kinds::{DIFFERENCE, LITERAL_POWER, MINUS, PRODUCT, PRODUCT_CHAIN, SUM};
+use plan_rows::kinds::PRODUCT_CHAIN;
 use plan_rows::word;
 
 // The tree stands in the last of the plan's own words, its nodes behind the node count.
@@ -50,15 +51,15 @@ fn put_pair(plan: &mut PlanWords, r: usize, first: u64, second: u64)
 }
 
 // The operator of two operands: + - * or a raise.
-fn fold_both(plan: &mut PlanWords, kind: u64, pair: Pair) -> usize
+fn fold_both(plan: &mut PlanWords, kind: NodeKind, pair: Pair) -> usize
     requires end_lt_most_rows { pair.end < most_rows }
     requires two { Two plan.old pair.left pair.middle pair.end }
-    ensures { FoldsBoth (fold_both kind) plan.old pair.left pair.middle pair.end result plan.new }
+    ensures { FoldsBoth (fold_both (kind_number kind)) plan.old pair.left pair.middle pair.end result plan.new }
 {
     match kind {
-        SUM => fold_sum(plan, Additive::Sum, pair),
-        DIFFERENCE => fold_sum(plan, Additive::Difference, pair),
-        PRODUCT => fold_products::fold_product(plan, pair),
+        NodeKind::Sum => fold_sum(plan, Additive::Sum, pair),
+        NodeKind::Difference => fold_sum(plan, Additive::Difference, pair),
+        NodeKind::Product => fold_products::fold_product(plan, pair),
         _ => fold_raises::fold_raise(plan, pair),
     }
 }
@@ -78,32 +79,33 @@ fn first_row(plan: &PlanWords, end: usize) -> usize
 }
 
 // One node: a number, x, or an operator on the operands that were finished last, its span left out. Answers the row behind the last operand.
-fn fold_node(plan: &mut PlanWords, end: usize, kind: u64, word: u64, grid: Grid) -> usize
-    requires { AtNode grid.start grid.step plan.old end kind word }
-    ensures { FoldsNode grid.start grid.step plan.old end kind word plan.new result }
+fn fold_node(plan: &mut PlanWords, end: usize, kind: NodeKind, word: u64, grid: Grid) -> usize
+    requires { AtNode grid.start grid.step plan.old end (kind_number kind) word }
+    ensures { FoldsNode grid.start grid.step plan.old end (kind_number kind) word plan.new result }
 {
-    if kind == NUMBER {
-        put_pair(plan, end, word, 0);
-        return end + 1;
+    match kind {
+        NodeKind::Number => {
+            put_pair(plan, end, word, 0);
+            end + 1
+        }
+        NodeKind::Variable => {
+            put_pair(plan, end, grid.start, grid.step);
+            end + 1
+        }
+        NodeKind::Minus => {
+            let first = first_row(plan, end);
+            fold_minus::fold_minus(plan, first, end)
+        }
+        NodeKind::LiteralPower => {
+            let base = first_row(plan, end);
+            fold_powers::fold_power(plan, base, end, word)
+        }
+        _ => {
+            let middle = first_row(plan, end);
+            let left = first_row(plan, middle);
+            fold_both(plan, kind, Pair { left, middle, end })
+        }
     }
-    if kind == VARIABLE {
-        put_pair(plan, end, grid.start, grid.step);
-        return end + 1;
-    }
-    let top = first_row(plan, end);
-    if kind == MINUS {
-        return fold_minus::fold_minus(plan, top, end);
-    }
-    if kind == LITERAL_POWER {
-        return fold_powers::fold_power(plan, top, end, word);
-    }
-    let below = first_row(plan, top);
-    let pair = Pair {
-        left: below,
-        middle: top,
-        end,
-    };
-    fold_both(plan, kind, pair)
 }
 
 // The node whose four words stand from `at` on: its root row, also that of an operand which it passes through, gets its whole span.
@@ -112,7 +114,7 @@ fn fold_place(plan: &mut PlanWords, at: usize, end: usize, grid: Grid) -> usize
     requires at_place { AtPlace grid.start grid.step plan.old end at }
     ensures { FoldsPlace grid.start grid.step plan.old end at plan.new result }
 {
-    let kind = plan[at];
+    let kind = NodeKind::try_from(plan[at]).unwrap();
     let word = plan[at + 1];
     let first_byte = plan[at + 2];
     let end_byte = plan[at + 3];

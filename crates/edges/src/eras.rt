@@ -10,16 +10,20 @@ use std::io;
 
 // number place crossing
 pub fn turn(rt: &impl Print, name: &str, body: &[u8]) -> io::Result<()> {
-    let f = chains::work(body);
-    let answer = chain_calls::shift(f.elements, f.length);
-    println!(rt; "{name}\t{} {} {}", answer.number, answer.place, answer.crossing)
+    let answer = chains::work(body).and_then(chain_calls::shift);
+    let judgement = Judgement::of(&answer);
+    let crossing = answer.map_or(0, |shifted| shifted.crossing);
+    println!(rt; "{name}\t{judgement} {crossing}")
 }
 
 // Fills the lent words, and answers the points written: number place points spent sum.
 fn count(rt: &impl Print, plan: &mut [u64], table: &mut [u64], budget: u64) -> io::Result<usize> {
     let answer = plan_eras::fill_eras(plan, table, budget);
     let judgement = Judgement::of(&answer);
-    let (points, spent, sum) = answer.map_or((0, 0, 0), |filled| (filled.points, filled.spent, filled.sum));
+    let (points, spent, sum) = answer.map_or(
+        (0, 0, 0),
+        |filled| (filled.points, filled.spent, filled.sum),
+    );
     print!(rt; "\teras {judgement} {points} {spent} {sum}")?;
     Ok(points)
 }

@@ -36,7 +36,11 @@ fn on_grid(rt: &impl Print, formula: &str, grid: Grid) -> io::Result<()> {
     let mut parts = [words::UNREAD; VALUES];
     let answer = compile::compile(formula.as_bytes(), start, step, &mut plan);
     let cost = plan_costs::cost(&plan).unwrap_or(0);
-    print!(rt; "grid {start},{step} {formula}\t{} rows {}", Judgement::of(&answer), plan[0])?;
+    print!(rt;
+        "grid {start},{step} {formula}\t{} rows {}",
+        Judgement::of(&answer),
+        plan[0]
+    )?;
     print!(rt; " cost {cost} sum {}", words::checksum(&plan))?;
     fill_part(&mut plan, &mut once, 0, VALUES, u64::MAX);
     let _ = compile::compile(formula.as_bytes(), start, step, &mut plan);

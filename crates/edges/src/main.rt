@@ -21,11 +21,11 @@ fn case(rt: &impl Print, section: &str, line: &str, expanded: &[u8]) -> io::Resu
     let body = text::after(expanded, b'|');
     match section {
         "chain" => chains::print(rt, name, chains::work(body)),
-        "value" => chains::value(rt, name, body, chains::present),
+        "value" => chains::value(rt, name, body, chain_calls::value),
         "sequence" => chains::sequence(rt, name, body),
         "list" => chains::list(rt, name, body),
         "turn" => eras::turn(rt, name, body),
-        "backward" => chains::value(rt, name, body, backward::present),
+        "backward" => chains::value(rt, name, body, chain_backward::backward_value),
         "walk" => backward::walk(rt, name, body),
         "offset" => probes::offset(rt, name, body),
         "formula" => formulas::reading(rt, name, text::before(expanded, b'|'), rest),
@@ -52,7 +52,12 @@ fn walk(rt: &impl Print, cases: &str) -> io::Result<()> {
             Some(name) => section = name,
             None => {
                 let mut bytes = [0; 7000];
-                case(rt, section, line, notation::expand(line.as_bytes(), &mut bytes))?;
+                case(
+                    rt,
+                    section,
+                    line,
+                    notation::expand(line.as_bytes(), &mut bytes),
+                )?;
             }
         }
     }

@@ -69,7 +69,11 @@ pub fn print_lent(
 ) -> io::Result<()> {
     let written = List(&table[..points.min(20) + 2]);
     print!(rt; " table {written} sum {}", words::checksum(table))?;
-    print!(rt; " {} sum {}", Rows { plan, most: 10 }, words::checksum(plan))
+    print!(rt;
+        " {} sum {}",
+        Rows { plan, most: 10 },
+        words::checksum(plan)
+    )
 }
 
 // Asks everything of the lent words, and answers the points written.
@@ -77,7 +81,11 @@ fn ask(rt: &impl Print, plan: &mut [u64], table: &mut [u64], budget: u64) -> io:
     let sound = plan_sound::sound(plan);
     let cost = plan_costs::cost(plan);
     let fill = plan_fill::fill(plan, table, budget);
-    print!(rt; "\tsound {} cost {}", Judgement::of(&sound), Judgement::of(&cost))?;
+    print!(rt;
+        "\tsound {} cost {}",
+        Judgement::of(&sound),
+        Judgement::of(&cost)
+    )?;
     print!(rt; " {} fill {}", cost.unwrap_or(0), Judgement::of(&fill))?;
     let (points, spent) = fill.map_or((0, 0), |filled| (filled.points, filled.spent));
     print!(rt; " {points} {spent}")?;
@@ -101,8 +109,18 @@ fn print_plan(rt: &impl Print, plan: &[u64; CASE_WORDS]) -> io::Result<()> {
     let cost = plan_costs::cost(plan);
     let end = 1 + ROW_WORDS * (plan[0] as usize).min(MOST_ROWS);
     print!(rt; "cost {} {}", Judgement::of(&cost), cost.unwrap_or(0))?;
-    print!(rt; " {}", Rows { plan, most: MOST_ROWS })?;
-    print!(rt; " {} {}", clean(&plan[end..PLAN_WORDS]), kept(plan, PLAN_WORDS))
+    print!(rt;
+        " {}",
+        Rows {
+            plan,
+            most: MOST_ROWS
+        }
+    )?;
+    print!(rt;
+        " {} {}",
+        clean(&plan[end..PLAN_WORDS]),
+        kept(plan, PLAN_WORDS)
+    )
 }
 
 // Of a refused formula it is told whether all words stayed.

@@ -1,7 +1,9 @@
 // Chains worked out by the library's calls from postfix text, on a stack of three; and lists of coefficients of any count.
 // How the words of a list are read is in `words`.
+ghost use Rattle.std.specs.Prelude.{◌≤◌};
+
 use crate::backward;
-use chain::{ChainAnswer, ValueAnswer};
+use chain::{Chain, Refusal};
 use edges_print::{Judgement, List, clean};
 use edges_text::{text, words};
 use std::io;
@@ -47,27 +49,31 @@ const O: [u64; 17] = [
     5216717000746992735,
 ];
 
+const ZERO: Chain = Chain {
+    length: 0,
+    elements: [0; 17],
+};
+
 // The most coefficients that a case lists.
 const MOST_LISTED: usize = 64;
 
-// Three chains, each as a call answers it. One that no call has answered is as an accepted call answers it.
 #[derive(Clone, Copy)]
 pub struct Stack {
-    pub top: ChainAnswer,
-    pub second: ChainAnswer,
-    third: ChainAnswer,
+    pub top: Chain,
+    pub second: Chain,
+    third: Chain,
 }
 
 impl Stack {
-    fn of(only: ChainAnswer) -> Stack {
+    fn new() -> Stack {
         Stack {
-            top: only,
-            second: only,
-            third: only,
+            top: ZERO,
+            second: ZERO,
+            third: ZERO,
         }
     }
 
-    pub fn pushed(self, top: ChainAnswer) -> Stack {
+    fn pushed(self, top: Chain) -> Stack {
         Stack {
             top,
             second: self.top,
@@ -76,7 +82,7 @@ impl Stack {
     }
 
     // With a chain in the place of the top.
-    pub fn with_top(self, top: ChainAnswer) -> Stack {
+    pub fn with_top(self, top: Chain) -> Stack {
         Stack {
             top,
             second: self.second,
@@ -85,7 +91,7 @@ impl Stack {
     }
 
     // With a chain in the place of the two uppermost ones.
-    pub fn with_both(self, top: ChainAnswer) -> Stack {
+    pub fn with_both(self, top: Chain) -> Stack {
         Stack {
             top,
             second: self.third,
@@ -94,94 +100,91 @@ impl Stack {
     }
 }
 
-pub fn shifted(f: ChainAnswer) -> ChainAnswer {
-    let answer = chain_calls::shift(f.elements, f.length);
-    let elements = answer.elements;
-    ChainAnswer {
-        number: answer.number,
-        place: answer.place,
-        length: answer.length,
-        elements,
-    }
+// How many of a chain's words are its elements.
+fn held(f: Chain) -> usize
+    ensures { result ≤ 17 }
+{
+    f.length.min(16) + 1
 }
 
-pub fn present(f: ChainAnswer) -> ValueAnswer {
-    chain_calls::value(f.elements, f.length)
+fn shifted(f: Chain) -> Result<Chain, Refusal> {
+    let shifted = chain_calls::shift(f)?;
+    Ok(shifted.chain)
 }
 
-// The chain that has its own elements for coefficients.
-fn of_elements(f: ChainAnswer) -> ChainAnswer {
-    let count = f.length.min(16) + 1;
+// The chain that has another one's elements for coefficients.
+fn of_elements(f: Chain) -> Result<Chain, Refusal> {
+    let count = held(f);
     chain_coefficients::from_coefficients(&f.elements[..count])
 }
 
-fn given(length: usize, elements: [u64; 17]) -> ChainAnswer {
-    ChainAnswer {
-        number: 0,
-        place: 0,
-        length,
-        elements,
-    }
-}
-
 // A list of words, or m or o with a length. The length of a listed chain is one less than the words, so over 16 from 18 words on.
-pub fn operand(token: &[u8]) -> ChainAnswer {
+fn operand(token: &[u8]) -> Chain {
     match token {
-        [b'm', length @ ..] => given(text::number(length) as usize, M),
-        [b'o', length @ ..] => given(text::number(length) as usize, O),
-        _ => given(words::count(token).wrapping_sub(1), words::list(token)),
+        [b'm', length @ ..] => Chain {
+            length: text::number(length) as usize,
+            elements: M,
+        },
+        [b'o', length @ ..] => Chain {
+            length: text::number(length) as usize,
+            elements: O,
+        },
+        _ => {
+            let elements = words::list::<17>(token);
+            Chain {
+                length: words::count(token).wrapping_sub(1),
+                elements,
+            }
+        }
     }
 }
 
 // The stack after a token. A list of words pushes a chain, and so does m or o with a length. An operator is a single byte: + - * take the
 // two uppermost chains; E shifts the top, T trims it, C takes its words as coefficients and D pushes it again. The other letters are in `backward`.
-fn step(stack: Stack, token: &[u8]) -> Stack {
+fn step(stack: Stack, token: &[u8]) -> Result<Stack, Refusal> {
     let f = stack.second;
     let g = stack.top;
-    match token {
-        [b'+'] => stack.with_both(chain_calls::sum(f.elements, f.length, g.elements, g.length)),
-        [b'-'] => stack.with_both(chain_calls::difference(
-            f.elements, f.length, g.elements, g.length,
-        )),
-        [b'*'] => stack.with_both(chain_calls::product(f.elements, f.length, g.elements, g.length)),
-        [b'E'] => stack.with_top(shifted(g)),
-        [b'T'] => stack.with_top(chain_calls::trim(g.elements, g.length)),
-        [b'C'] => stack.with_top(of_elements(g)),
+    Ok(match token {
+        [b'+'] => stack.with_both(chain_calls::sum(f, g)?),
+        [b'-'] => stack.with_both(chain_calls::difference(f, g)?),
+        [b'*'] => stack.with_both(chain_calls::product(f, g)?),
+        [b'E'] => stack.with_top(shifted(g)?),
+        [b'T'] => stack.with_top(chain_calls::trim(g)?),
+        [b'C'] => stack.with_top(of_elements(g)?),
         [b'D'] => stack.pushed(g),
-        [letter] if letter.is_ascii_alphabetic() => backward::step(stack, *letter),
+        [letter] if letter.is_ascii_alphabetic() => backward::step(stack, *letter)?,
         _ => stack.pushed(operand(token)),
-    }
+    })
 }
 
-// The stack's top after all tokens.
-pub fn work(tokens: &[u8]) -> ChainAnswer {
-    let mut stack = Stack::of(given(0, [0; 17]));
+// The stack's top after all tokens, or the first refusal.
+pub fn work(tokens: &[u8]) -> Result<Chain, Refusal> {
+    let mut stack = Stack::new();
     let tokens = tokens
         .split(|byte| *byte == b' ')
         .filter(|token| !token.is_empty());
     for token in tokens {
-        stack = step(stack, token);
+        stack = step(stack, token)?;
     }
-    stack.top
+    Ok(stack.top)
 }
 
 // number place length elements, and whether the words past the length are clean
-pub fn print(rt: &impl Print, name: &str, f: ChainAnswer) -> io::Result<()> {
-    let judgement = Judgement {
-        number: f.number,
-        place: f.place,
-    };
-    let length = f.length;
-    let (held, rest) = f.elements.split_at(length.min(16) + 1);
+pub fn print(rt: &impl Print, name: &str, answer: Result<Chain, Refusal>) -> io::Result<()> {
+    let judgement = Judgement::of(&answer);
+    let f = answer.unwrap_or(ZERO);
+    let count = held(f);
+    let (held, rest) = f.elements.split_at(count);
     println!(rt;
-        "{name}\t{judgement} {length} {} {}",
+        "{name}\t{judgement} {} {} {}",
+        f.length,
         List(held),
         clean(rest)
     )
 }
 
-// number place word: the present value as a call answers it
-pub fn value<F: Fn(ChainAnswer) -> ValueAnswer>(
+// number place word: the present value
+pub fn value<F: Fn(Chain) -> Result<u64, Refusal>>(
     rt: &impl Print,
     name: &str,
     body: &[u8],
@@ -189,36 +192,38 @@ pub fn value<F: Fn(ChainAnswer) -> ValueAnswer>(
 ) -> io::Result<()>
     requires { F.IsAlwaysCallable present }
 {
-    let answer = present(work(body));
-    let judgement = Judgement {
-        number: answer.number,
-        place: answer.place,
-    };
-    println!(rt; "{name}\t{judgement} {}", answer.word)
+    let answer = work(body).and_then(present);
+    println!(rt;
+        "{name}\t{} {}",
+        Judgement::of(&answer),
+        answer.unwrap_or(0)
+    )
 }
 
 // The values at 20 indices: the present one, and then what a step makes of the chain, in turn.
-pub fn values<F: Fn(ChainAnswer) -> ValueAnswer, G: Fn(ChainAnswer) -> ChainAnswer>(
-    first: ChainAnswer,
+pub fn values<F: Fn(Chain) -> Result<u64, Refusal>, G: Fn(Chain) -> Result<Chain, Refusal>>(
+    first: Chain,
     present: F,
     next: G,
-) -> [u64; 20]
+) -> Result<[u64; 20], Refusal>
     requires present { F.IsAlwaysCallable present }
     requires next { G.IsAlwaysCallable next }
 {
     let mut f = first;
     let mut values = [0; 20];
     for value in values.iter_mut() {
-        *value = present(f).word;
-        f = next(f);
+        *value = present(f)?;
+        f = next(f)?;
     }
-    values
+    Ok(values)
 }
 
 // value,value,.. at the first 20 indices
 pub fn sequence(rt: &impl Print, name: &str, body: &[u8]) -> io::Result<()> {
-    let values = values(work(body), present, shifted);
-    println!(rt; "{name}\t{}", List(&values))
+    match work(body).and_then(|f| values(f, chain_calls::value, shifted)) {
+        Ok(values) => println!(rt; "{name}\t{}", List(&values)),
+        Err(refusal) => println!(rt; "{name}\t{}", Judgement::from(refusal)),
+    }
 }
 
 // The chain of a list of coefficients, which may be empty or have more than 17 words.

@@ -51,6 +51,12 @@ impl From<formula::Refusal> for Judgement {
     }
 }
 
+impl From<chain::Refusal> for Judgement {
+    fn from(refusal: chain::Refusal) -> Judgement {
+        Judgement::without_place(refusal.into())
+    }
+}
+
 impl From<plan::Refusal> for Judgement {
     fn from(refusal: plan::Refusal) -> Judgement {
         Judgement::without_place(refusal.into())

@@ -18,7 +18,10 @@ fn ask(rt: &impl Print, plan: &[u64], row: usize) -> io::Result<()> {
     let judgement = Judgement::of(&answer);
     match answer {
         Ok(Explained { reason, first, end }) => {
-            print!(rt; "\t{judgement} {} {first} {end}", reason.map_or(0, u64::from))
+            print!(rt;
+                "\t{judgement} {} {first} {end}",
+                reason.map_or(0, u64::from)
+            )
         }
         Err(_) => print!(rt; "\t{judgement} 0 0 0"),
     }

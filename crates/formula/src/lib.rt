@@ -59,10 +59,6 @@ impl From<NodeKind> for u64 {
     }
 }
 
-pub const NUMBER: u64 = 0;
-
-pub const VARIABLE: u64 = 1;
-
 // Why a formula is refused, by 01's table, with the place in the text where that depends on the text.
 #[derive(Clone, Copy, Debug, PartialEq, Eq)]
 pub enum Refusal {

@@ -13,6 +13,7 @@ pub const PLAIN_WORDS: usize = 2 * formula::MOST_NODES;
 pub const SPANNED_WORDS: usize = 4 * formula::MOST_NODES;
 
 // A number of a text: its end, its value if it fits a word, and 1 if it is odd.
+// Kept: oddness is a number here and below, since it is multiplied, and added modulo 2, as the definition `parity` does.
 #[derive(Clone, Copy)]
 pub struct Decimal {
     pub at: usize,
@@ -33,8 +34,8 @@ pub struct LeftOperand {
 
 // What a reader read: a tree that ends before `at`, whether x stands in it, 1 if its value is odd, the nodes and the least fault so far.
 // A reader that read none answers the place past which no formula goes on.
-// Kept: the least fault is the number that is the least, a Refusal's code, and PLACES times 9 if there is none, since the definitions take the
-// minimum of codes (`faulted`, `code`) and one word has to hold it.
+// Kept: the least fault is a number, the code of a Refusal or 9 times PLACES for none, since the definitions take the minimum of codes (`faulted`,
+// `code`) and one word has to hold it.
 #[derive(Clone, Copy)]
 pub struct Parsed {
     pub variable: bool,

@@ -2,7 +2,7 @@
 // What a run prints is decided in `table_steps`; here bytes are read and written, and buffers are lent.
 #![tactic(auto)]
 
-ghost use Rattle.std.specs.Prelude.{◌≤◌, length, IfOk};
+ghost use Rattle.std.specs.Prelude.{◌≡◌, ◌≤◌, length, IfOk, OnErr};
 ghost use Rattle.table_runs.specs.declared.TheConstants.{OUTPUT_BYTES};
 
 use plan::PLAN_WORDS;
@@ -70,15 +70,19 @@ struct ToolRun {
 }
 
 impl ToolRun {
-    // Writes what fills the output buffer.
-    fn flush<R: Print + Eprint>(&mut self, rt: &R) -> io::Result<()> {
+    // Writes what fills the output buffer. Where that fails, nothing has changed.
+    fn flush<R: Print + Eprint>(&mut self, rt: &R) -> io::Result<()>
+        ensures { OnErr result (self.new ≡ self.old) }
+    {
         write(rt, &self.out[..self.filled])?;
         self.filled = 0;
         Ok(())
     }
 
-    // Room for what a step prints.
-    fn make_room<R: Print + Eprint>(&mut self, rt: &R) -> io::Result<()> {
+    // Room for what a step prints. Where the write that makes it fails, nothing has changed.
+    fn make_room<R: Print + Eprint>(&mut self, rt: &R) -> io::Result<()>
+        ensures { OnErr result (self.new ≡ self.old) }
+    {
         if self.out.len() - self.filled < MOST_PRINTED {
             self.flush(rt)?;
         }

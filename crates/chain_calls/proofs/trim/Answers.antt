@@ -6,5 +6,5 @@ use Rattle.chain_calls.proofs.trim.Goals as goal
 pub returns : goal.returns
 returns c =
     let f = c.args.f in
-    let words = c.in_ok-words.ensures in
-    rw (c.accepted.ensures, words.1, le-ltb 16 f.length words.0, kept-trimmed f.elements f.length (search rules))
+    let kept = c.in_ok-kept.ensures in
+    rw (c.accepted.ensures, kept.1, le-ltb 16 f.length kept.0, kept-trimmed f.elements f.length (search rules))

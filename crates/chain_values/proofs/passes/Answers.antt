@@ -1,6 +1,4 @@
-use Rattle.std.proofs.Common.{ap, ◌∙◌, arith}
 use Rattle.chain_arrays.specs.Operations.{worked}
-use Rattle.chain_values.specs.Passes.{passes}
 use Rattle.chain_values.proofs.Passing.{passes_none, pass_turn}
 use Rattle.chain_values.proofs.passes.Goals as goal
 
@@ -11,7 +9,3 @@ pub loop-j-preserved : goal.loop-j-preserved
 loop-j-preserved g c =
     let turn = c.loop-j in
     pass_turn (worked g.O.Operation.operation) turn.j c.args.f.now c.requires turn.invariant c.meet.ensures
-
-pub returns : goal.returns
-returns g c =
-    c.loop-j.invariant ∙ ap (λ n. passes (worked g.O.Operation.operation) n c.args.f.now) (omega arith)
