@@ -2,12 +2,11 @@
 use mathlib.Core.Path.{◌≡◌, refl, sym, ap, ap₂, ◌∙◌}
 use mathlib.Core.Bool.{Bool, true, false, cond}
 use mathlib.Core.List.{List, ◌++◌}
-use Prim.Native.Nat.{ℕ, ◌+◌, ◌-◌, ◌*◌, ◌/◌, ◌≤◌, ◌<◌, min}
-use native.Mathlib.Nat.{suc-ne-zero, sub-zero, le_trans, min-le_left, min-le_right, mul-le-mul_right, div-mul-le_self}
+use Prim.Native.Nat.{ℕ, ◌+◌, ◌*◌, ◌/◌, ◌≤◌, ◌<◌, min}
+use native.Mathlib.Nat.{suc-ne-zero, le_trans, min-le_right, mul-le-mul_right, div-mul-le_self}
 use native.Mathlib.Omega.{arith}
 use lib.Dec.{ltb, eqb}
 use lib.ListN.{length, drop, take-append-drop}
-use lib.Seq.{length-take-le}
 use borrow.Author.Tests.{lt-ltb, ltb-false, eqb-true, eqb-false, eq-eqb, ne_eqb}
 use Rattle.plan.specs.Measures.{plan_length}
 use Rattle.plan.specs.declared.Refusal.{Refusal}
@@ -15,7 +14,6 @@ use Rattle.plan.specs.declared.Refusal.TheVariants.{TooShort}
 use Rattle.plan.specs.Answers.{refusal_number, SoundAnswer, CostAnswer, FillAnswer}
 use Rattle.plan.specs.Plan.{sound, cost, refusal}
 use Rattle.plan.specs.Filling.{Filled, point_cost, points_for, plan_after, point_values, filled, fill_refused, fill, cost_answer, sound_answer}
-use Rattle.plan.proofs.RowLaws.{part, part_put}
 use Rattle.plan.proofs.Decoding.{refused-some}
 use Rattle.plan.proofs.Lent.{lent_plan, lent_refusal, lent_cost, lent_points, lent_after}
 
@@ -79,13 +77,6 @@ fill_refuses p table budget e told =
 pub spent_fits : (budget cost n room : ℕ) → n ≡ min room (budget / (cost + 1)) → n * (cost + 1) ≤ budget
 spent_fits budget cost n room e =
     le_trans (mul-le-mul_right (cost + 1) (omega (arith, e, min-le_right room (budget / (cost + 1))))) (div-mul-le_self budget (cost + 1))
-
--- As many words are lent for the points as there are points, and what is put back there stands before the others.
-pub points-whole : (table : List ℕ) (n room : ℕ) → n ≡ min (length table) room → length (part 0 n table) ≡ n
-points-whole table n room counts = length-take-le (n - 0) table (omega (arith, counts, min-le_left (length table) room)) ∙ sub-zero n
-
-pub points-put : (n : ℕ) (table written : List ℕ) → part_put 0 n table written ≡ written ++ drop n table
-points-put n table written = ap (λ k. written ++ drop k table) (sub-zero n)
 
 -- What the code of an accepted fill answers and leaves.
 pub fill_done : (p table : List ℕ) (budget : ℕ) {n spent : ℕ} {written left : List ℕ} → refusal p ≡ 0

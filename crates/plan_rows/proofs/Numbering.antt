@@ -1,5 +1,5 @@
 -- The numbers of row kinds: there are nine, and no two kinds have one number.
-use Rattle.std.proofs.Common.{◌≡◌, ◌<◌, refl, arith}
+use Rattle.std.proofs.Common.{◌<◌, arith}
 use Rattle.plan_rows.specs.declared.kinds.RowKind.{RowKind}
 use Rattle.plan_rows.specs.declared.kinds.RowKind.TheVariants.{Constant, SumChain, ProductChain, Sum, Difference, Product, Minus, LiteralPower, Raise}
 use Rattle.plan_rows.specs.Kinds.{kind_number}

@@ -1,8 +1,6 @@
 -- `fill_eras` refuses, or fills as many points as room and budget allow and answers the crossings over them, by the plan among the words that are lent.
 use Rattle.std.proofs.Common.{◌++◌, drop, sym, ap, ◌∙◌}
 use Rattle.std.proofs.lemmas.Result.{err_from_is_err_and}
-use mir.Syntax.{w64}
-use mir.ValLaws.{to_z-of_z}
 use Rattle.plan.specs.declared.Refusal.TheVariants.{TooShort}
 use Rattle.plan.specs.Measures.{plan_length}
 use Rattle.plan.proofs.Accepting.{accepted, fill_done}

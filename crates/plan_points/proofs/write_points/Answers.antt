@@ -1,5 +1,4 @@
-use Rattle.std.proofs.Common.{◌≡◌, refl, sym, ap, ap₂, ◌∙◌, ◌++◌, length, set, arith, append-nil}
-use lib.ListN.{drop_of_length-le}
+use Rattle.std.proofs.Common.{refl, sym, ap, ap₂, ◌∙◌, set, arith}
 use Rattle.plan.specs.Plan.{sound}
 use Rattle.plan.specs.Points.{root_value, shifted_plan}
 use Rattle.plan.specs.Filling.{plan_after, point_values}

@@ -1,6 +1,6 @@
 -- `write_points` writes a value, counts and shifts the plan at each point. Invariant: as many values are written as words are passed, the plan is shifted as often,
 -- and the sum is that of so many points.
-use Rattle.std.proofs.Common.{◌≡◌, ◌++◌, length, drop}
+use Rattle.std.proofs.Common.{◌≡◌, ◌++◌, drop}
 use Rattle.plan.specs.Filling.{plan_after, point_values}
 use Rattle.plan.specs.Counting.{counted_over}
 use Rattle.plan_points.proofs.write_points.Given as goal

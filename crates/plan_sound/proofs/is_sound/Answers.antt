@@ -1,5 +1,5 @@
 -- `is_sound` judges word 0, the rows that it counts, and the words after them.
-use Rattle.std.proofs.Common.{◌≡◌, sym, ap, ◌∙◌, arith}
+use Rattle.std.proofs.Common.{sym, ap, ◌∙◌, arith}
 use borrow.Author.Tests.{le-leb, lt-leb}
 use Rattle.plan.specs.Measures.{plan_length, most_rows, row_start}
 use Rattle.plan.specs.Row.{all_zero}

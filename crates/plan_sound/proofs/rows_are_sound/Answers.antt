@@ -1,5 +1,5 @@
-use Rattle.std.proofs.Common.{◌≡◌, sym, refl, ◌∙◌, arith}
-use Rattle.plan.specs.Plan.{rows_from, first_rows, sound_from}
+use Rattle.std.proofs.Common.{sym, refl, ◌∙◌, arith}
+use Rattle.plan.specs.Plan.{rows_from, sound_from}
 use Rattle.plan.proofs.SoundLaws.{sound-next, sound-not}
 use Rattle.plan_sound.proofs.rows_are_sound.Goals as goal
 

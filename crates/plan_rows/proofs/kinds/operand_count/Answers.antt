@@ -1,5 +1,5 @@
 -- `operand_count` reads the table; what is no kind has no operands.
-use Rattle.std.proofs.Common.{sym, ap, arith, rules}
+use Rattle.std.proofs.Common.{sym, ap, arith}
 use lib.ListN.{get_or-eq_default}
 use Rattle.plan.specs.declared.Kind.{Kind}
 use Rattle.plan.specs.Row.{costing, kind_table, kind_facts}
