@@ -15,7 +15,7 @@ ghost use Rattle.reason.proofs.SoundRows.{row_reason};
 
 use operands::seen;
 use plan::{Refusal, SPAN_START};
-use plan_rows::kinds::{LITERAL_POWER, MINUS, PRODUCT, RAISE, SUM};
+use plan_rows::kinds::{NoKind, RowKind};
 use plan_rows::row;
 use plan_sound::sound;
 use reason::{Explained, Reason, Seen};
@@ -42,23 +42,16 @@ pub fn row_reason(plan: &[u64], r: usize) -> Option<Reason>
     ensures { number_or_0 result ≡ row_reason plan.now r }
 {
     let words = row(plan, r);
-    let kind = words[0];
-    if kind < SUM {
-        return None;
-    }
+    let a = words[1] as usize;
     let b = words[2] as usize;
-    let left = operand(plan, words[1] as usize);
-    if kind == MINUS {
-        return Some(minus_reason(left));
-    }
-    if kind == LITERAL_POWER {
-        return Some(power_reason(left, b));
-    }
-    let right = operand(plan, b);
-    Some(match kind {
-        PRODUCT => product_reason(left, right),
-        RAISE => raise_reason(right),
-        _ => sum_reason(left, right),
+    Some(match RowKind::try_from(words[0]) {
+        Ok(RowKind::Sum | RowKind::Difference) => sum_reason(operand(plan, a), operand(plan, b)),
+        Ok(RowKind::Product) => product_reason(operand(plan, a), operand(plan, b)),
+        Ok(RowKind::Minus) => minus_reason(operand(plan, a)),
+        Ok(RowKind::LiteralPower) => power_reason(operand(plan, a), b),
+        Ok(RowKind::Raise) => raise_reason(operand(plan, b)),
+        Ok(RowKind::Constant | RowKind::SumChain | RowKind::ProductChain) => return None,
+        Err(NoKind) => unreachable!(),
     })
 }
 
