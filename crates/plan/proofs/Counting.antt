@@ -10,8 +10,12 @@ use mir.ValLaws.{to_z-of_z}
 use Rattle.chain.specs.Crossing.{crossing}
 use Rattle.plan.specs.Points.{shifted_plan}
 use Rattle.plan.specs.Filling.{plan_after}
-use Rattle.plan.specs.Counting.{counted_over}
 use Rattle.plan.specs.Eras.{root_chain, eras_over}
+
+-- What is counted at the points of a fill, added up: of any number that the plan has at a point, as it stands there.
+unfoldable pub counted_over : (List ℕ → ℤ) → ℕ → ℕ → List ℕ → ℤ
+counted_over count w zero p = pos 0
+counted_over count w (suc n) p = count p +ℤ counted_over count w n (shifted_plan w p)
 
 -- ---- the size of a sum
 abs_difference : (a b : ℕ) → nat_abs (sub_ℕ a b) ≤ a + b

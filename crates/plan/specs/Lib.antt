@@ -6,6 +6,5 @@ pub mod Plan
 pub mod Points
 pub mod Answers
 pub mod Filling
-pub mod Counting
 pub mod Calls
 pub mod Eras

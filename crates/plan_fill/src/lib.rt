@@ -6,7 +6,7 @@ ghost use Rattle.std.specs.Prelude.{◌≡◌, true, ◌++◌, ◌*◌, pos, len
 ghost use Rattle.plan.specs.Plan.{sound};
 ghost use Rattle.plan.specs.Answers.{as_fill_answer};
 ghost use Rattle.plan.specs.Filling.{point_cost, points_for, plan_after, point_values, fill};
-ghost use Rattle.plan.specs.Counting.{counted_over};
+ghost use Rattle.plan.proofs.Counting.{counted_over};
 ghost use Rattle.std.proofs.Common.{rules};
 
 use plan::{CountedPoints, FilledPoints, PLAN_WORDS, PlanWords, Refusal};

@@ -8,7 +8,7 @@ ghost use Rattle.plan.specs.Row.{kind, word_a, word_b, is_chain};
 ghost use Rattle.plan.specs.Plan.{sound};
 ghost use Rattle.plan.specs.Points.{row_value, root_value, shifted_row, shifted_plan};
 ghost use Rattle.plan.specs.Filling.{plan_after, point_values};
-ghost use Rattle.plan.specs.Counting.{counted_over};
+ghost use Rattle.plan.proofs.Counting.{counted_over};
 
 use chain_arrays::{Product, Sum, shift_part};
 use plan::{ELEMENTS_START, MOST_ROWS, PlanWords, ROW_WORDS};

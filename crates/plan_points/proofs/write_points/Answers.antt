@@ -2,7 +2,7 @@ use Rattle.std.proofs.Common.{refl, sym, ap, ap₂, ◌∙◌, set, arith}
 use Rattle.plan.specs.Plan.{sound}
 use Rattle.plan.specs.Points.{root_value, shifted_plan}
 use Rattle.plan.specs.Filling.{plan_after, point_values}
-use Rattle.plan.specs.Counting.{counted_over}
+use Rattle.plan.proofs.Counting.{counted_over}
 use Rattle.plan.proofs.Keeping.{sound-after}
 use Rattle.plan.proofs.Sharing.{after_next, points_store}
 use Rattle.plan.proofs.Counting.{counts_on, counted}

@@ -2,7 +2,7 @@
 -- and the sum is that of so many points.
 use Rattle.std.proofs.Common.{◌≡◌, ◌++◌, drop}
 use Rattle.plan.specs.Filling.{plan_after, point_values}
-use Rattle.plan.specs.Counting.{counted_over}
+use Rattle.plan.proofs.Counting.{counted_over}
 use Rattle.plan_points.proofs.write_points.Given as goal
 
 abbrev pub invariant-loop-word : goal.invariant-loop-word
