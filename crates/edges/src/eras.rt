@@ -9,11 +9,12 @@ use edges_text::words;
 use std::io;
 
 // number place crossing
-pub fn turn(rt: &impl Print, name: &str, body: &[u8]) -> io::Result<()> {
-    let answer = chains::work(body).and_then(chain_calls::shift);
+pub fn turn(rt: &impl Print, name: &[u8], body: &[u8]) -> io::Result<()> {
+    let answer = chain_calls::shift(chains::worked(body));
     let judgement = Judgement::of(&answer);
     let crossing = answer.map_or(0, |shifted| shifted.crossing);
-    println!(rt; "{name}\t{judgement} {crossing}")
+    rt.write_all(name)?;
+    println!(rt; "\t{judgement} {crossing}")
 }
 
 // Fills the lent words, and answers the points written: number place points spent sum.
@@ -31,11 +32,11 @@ fn count(rt: &impl Print, plan: &mut [u64], table: &mut [u64], budget: u64) -> i
 // e10,15 is to t10,15 what filling with era count is to filling.
 pub fn fill(
     rt: &impl Print,
-    list: &[u8],
+    token: &[u8],
     plan: &mut CasePlan,
     table: &mut [u64; TABLE_WORDS],
 ) -> io::Result<()> {
-    let [points, budget] = words::list::<2>(list);
+    let [points, budget] = words::list::<2>(token);
     let room = (points as usize).min(TABLE_WORDS);
     let points = count(rt, plan.lent(), &mut table[..room], budget)?;
     plans::print_lent(rt, table, points, &plan.words)

@@ -29,27 +29,29 @@ fn fill_parts(plan: &mut [u64], table: &mut [u64], cost: u64) {
     fill_part(plan, table, 9, VALUES, u64::MAX);
 }
 
-fn on_grid(rt: &impl Print, formula: &str, grid: Grid) -> io::Result<()> {
+fn on_grid(rt: &impl Print, formula: &[u8], grid: Grid) -> io::Result<()> {
     let Grid { start, step } = grid;
     let mut plan = [words::UNREAD; PLAN_WORDS];
     let mut once = [words::UNREAD; VALUES];
     let mut parts = [words::UNREAD; VALUES];
-    let answer = compile::compile(formula.as_bytes(), start, step, &mut plan);
+    let answer = compile::compile(formula, start, step, &mut plan);
     let cost = plan_costs::cost(&plan).unwrap_or(0);
+    print!(rt; "grid {start},{step} ")?;
+    rt.write_all(formula)?;
     print!(rt;
-        "grid {start},{step} {formula}\t{} rows {}",
+        "\t{} rows {}",
         Judgement::of(&answer),
         plan[0]
     )?;
     print!(rt; " cost {cost} sum {}", words::checksum(&plan))?;
     fill_part(&mut plan, &mut once, 0, VALUES, u64::MAX);
-    let _ = compile::compile(formula.as_bytes(), start, step, &mut plan);
+    let _ = compile::compile(formula, start, step, &mut plan);
     fill_parts(&mut plan, &mut parts, cost);
     let differs = if once == parts { "" } else { " differs" };
     println!(rt; " values {}{differs}", List(&once))
 }
 
-pub fn each(rt: &impl Print, formula: &str) -> io::Result<()> {
+pub fn each(rt: &impl Print, formula: &[u8]) -> io::Result<()> {
     for start in CORNERS {
         for step in CORNERS {
             on_grid(rt, formula, Grid { start, step })?;

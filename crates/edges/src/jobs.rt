@@ -115,11 +115,12 @@ fn run_input<F: Fn(usize) -> usize>(rt: &impl Print, input: &[u8], size: F) -> i
 }
 
 // What the run writes, and what it writes where its input comes in uneven pieces of 1 to 5 bytes.
-pub fn run(rt: &impl Print, line: &str) -> io::Result<()> {
+pub fn run(rt: &impl Print, line: &[u8]) -> io::Result<()> {
     let mut bytes = [0; 7000];
-    let file = notation::expand(line.as_bytes(), &mut bytes);
+    let file = notation::expand(line, &mut bytes);
     exchange(file);
-    print!(rt; "jobs {line}")?;
+    rt.print("jobs ")?;
+    rt.write_all(line)?;
     run_input(rt, file, |_| usize::MAX)?;
     run_input(rt, file, |at| at % 5 + 1)?;
     println!(rt; "")

@@ -9,57 +9,51 @@ mod plans;
 
 use edges_calls::{backward, chains, formulas, probes};
 use edges_text::{input, notation, text};
-use std::{io, str};
+use std::io;
 
 // One byte more than the input may have.
 const MOST_READ: usize = 65536;
 
-// A case is a name and a body with a bar between them. The section says what they are; a plan, a formula on grids and a job file are the whole line, and a
-// formula's text is its name. The body has its repeats written out, but for the words lent to a formula.
-fn case(rt: &impl Print, section: &str, line: &str, expanded: &[u8]) -> io::Result<()> {
-    let (name, rest) = line.split_once('|').unwrap_or((line, ""));
+// A case is a name and a body with a bar between them. The section's first letter says what they are; a plan, a formula on grids and a
+// job file are the whole line, and a formula's text is its name. `line` is as written, `expanded` has its repeats written out.
+fn case(rt: &impl Print, section: u8, line: &[u8], expanded: &[u8]) -> io::Result<()> {
+    let name = text::before(line, b'|');
     let body = text::after(expanded, b'|');
     match section {
-        "chain" => chains::print(rt, name, chains::work(body)),
-        "value" => chains::value(rt, name, body, chain_calls::value),
-        "sequence" => chains::sequence(rt, name, body),
-        "list" => chains::list(rt, name, body),
-        "turn" => eras::turn(rt, name, body),
-        "backward" => chains::value(rt, name, body, chain_backward::backward_value),
-        "walk" => backward::walk(rt, name, body),
-        "offset" => probes::offset(rt, name, body),
-        "formula" => formulas::reading(rt, name, text::before(expanded, b'|'), rest),
-        "plan" => plans::run(rt, line, expanded),
-        "grids" => grids::each(rt, line),
-        "jobs" => jobs::run(rt, line),
+        b'c' => chains::print(rt, name, chains::work(body)),
+        b'v' => chains::value(rt, name, body, chain_calls::value),
+        b's' => chains::sequence(rt, name, body),
+        b'l' => chains::list(rt, name, body),
+        b't' => eras::turn(rt, name, body),
+        b'b' => chains::value(rt, name, body, chain_backward::backward_value),
+        b'w' => backward::walk(rt, name, body),
+        b'o' => probes::offset(rt, name, body),
+        b'f' => formulas::reading(rt, name, text::before(expanded, b'|'), body),
+        b'p' => plans::run(rt, line, expanded),
+        b'g' => grids::each(rt, line),
+        b'j' => jobs::run(rt, line),
         _ => rt.println("no such section"),
     }
 }
 
-// The name of the section that a line begins.
-fn section_of(line: &str) -> Option<&str> {
-    line.strip_prefix('[')?.strip_suffix(']')
+// Runs a case, unless the line is empty, a comment or the name of a section. Answers the section of the next line.
+fn turn(rt: &impl Print, section: u8, line: &[u8]) -> io::Result<u8> {
+    match line {
+        [] | [0 | b';', ..] => Ok(section),
+        [b'['] => Ok(0),
+        [b'[', letter, ..] => Ok(*letter),
+        _ => {
+            let mut bytes = [0; 7000];
+            case(rt, section, line, notation::expand(line, &mut bytes))?;
+            Ok(section)
+        }
+    }
 }
 
-// Runs every line but those that are empty, comments or names of sections.
-fn walk(rt: &impl Print, cases: &str) -> io::Result<()> {
-    let mut section = "";
-    for line in cases.lines() {
-        if line.is_empty() || line.starts_with(';') {
-            continue;
-        }
-        match section_of(line) {
-            Some(name) => section = name,
-            None => {
-                let mut bytes = [0; 7000];
-                case(
-                    rt,
-                    section,
-                    line,
-                    notation::expand(line.as_bytes(), &mut bytes),
-                )?;
-            }
-        }
+fn walk(rt: &impl Print, cases: &[u8]) -> io::Result<()> {
+    let mut section = 0;
+    for line in cases.split_inclusive(|byte| *byte == b'\n') {
+        section = turn(rt, section, text::unmarked(line, b'\n'))?;
     }
     Ok(())
 }
@@ -67,11 +61,9 @@ fn walk(rt: &impl Print, cases: &str) -> io::Result<()> {
 fn main(rt: HostRuntime) -> io::Result<()> {
     let mut cases = [0; MOST_READ];
     let count = input::read_full(&mut rt.stdin(), &mut cases)?;
-    if count == MOST_READ {
-        return rt.println("the input is longer than 65535 bytes");
-    }
-    match str::from_utf8(&cases[..count]) {
-        Ok(cases) => walk(&rt, cases),
-        Err(_) => rt.println("the input is no text"),
+    if count < MOST_READ {
+        walk(&rt, &cases[..count])
+    } else {
+        rt.println("the input is longer than 65535 bytes")
     }
 }

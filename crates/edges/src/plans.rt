@@ -94,11 +94,11 @@ fn ask(rt: &impl Print, plan: &mut [u64], table: &mut [u64], budget: u64) -> io:
 
 fn fill(
     rt: &impl Print,
-    list: &[u8],
+    token: &[u8],
     plan: &mut CasePlan,
     table: &mut [u64; TABLE_WORDS],
 ) -> io::Result<()> {
-    let [points, budget] = words::list::<2>(list);
+    let [points, budget] = words::list::<2>(token);
     let room = (points as usize).min(TABLE_WORDS);
     let points = ask(rt, plan.lent(), &mut table[..room], budget)?;
     print_lent(rt, table, points, &plan.words)
@@ -147,8 +147,8 @@ fn step(
     table: &mut [u64; TABLE_WORDS],
 ) -> io::Result<()> {
     match token {
-        [b't', list @ ..] => fill(rt, list, plan, table),
-        [b'e', list @ ..] => eras::fill(rt, list, plan, table),
+        [b't', ..] => fill(rt, token, plan, table),
+        [b'e', ..] => eras::fill(rt, token, plan, table),
         [b's', ..] => print!(rt; "\tspans{}", Spans(&plan.words)),
         [b'=', formula @ ..] => compile_on(rt, formula, rows::PLAIN, plan),
         [b'g', gridded @ ..] => {
@@ -168,15 +168,13 @@ fn step(
 }
 
 // The line is the case's name too; its tokens have their repeats written out.
-pub fn run(rt: &impl Print, line: &str, tokens: &[u8]) -> io::Result<()> {
+pub fn run(rt: &impl Print, line: &[u8], tokens: &[u8]) -> io::Result<()> {
     let mut plan = CasePlan::new();
     let mut table = [words::UNREAD; TABLE_WORDS];
-    print!(rt; "plan {line}")?;
-    let tokens = tokens
-        .split(|byte| *byte == b' ')
-        .filter(|token| !token.is_empty());
-    for token in tokens {
-        step(rt, token, &mut plan, &mut table)?;
+    rt.print("plan ")?;
+    rt.write_all(line)?;
+    for token in tokens.split_inclusive(|byte| *byte == b' ') {
+        step(rt, text::unmarked(token, b' '), &mut plan, &mut table)?;
     }
     println!(rt; "")
 }

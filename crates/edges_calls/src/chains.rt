@@ -49,7 +49,7 @@ const O: [u64; 17] = [
     5216717000746992735,
 ];
 
-const ZERO: Chain = Chain {
+pub const ZERO: Chain = Chain {
     length: 0,
     elements: [0; 17],
 };
@@ -57,23 +57,33 @@ const ZERO: Chain = Chain {
 // The most coefficients that a case lists.
 const MOST_LISTED: usize = 64;
 
+// Three answers. What is refused stands for the constant 0 in the calls that follow.
 #[derive(Clone, Copy)]
 pub struct Stack {
-    pub top: Chain,
-    pub second: Chain,
-    third: Chain,
+    top: Result<Chain, Refusal>,
+    second: Result<Chain, Refusal>,
+    third: Result<Chain, Refusal>,
 }
 
 impl Stack {
     fn new() -> Stack {
+        let zero = Ok(ZERO);
         Stack {
-            top: ZERO,
-            second: ZERO,
-            third: ZERO,
+            top: zero,
+            second: zero,
+            third: zero,
         }
     }
 
-    fn pushed(self, top: Chain) -> Stack {
+    pub fn top(self) -> Chain {
+        self.top.unwrap_or(ZERO)
+    }
+
+    pub fn second(self) -> Chain {
+        self.second.unwrap_or(ZERO)
+    }
+
+    pub fn pushed(self, top: Result<Chain, Refusal>) -> Stack {
         Stack {
             top,
             second: self.top,
@@ -81,8 +91,8 @@ impl Stack {
         }
     }
 
-    // With a chain in the place of the top.
-    pub fn with_top(self, top: Chain) -> Stack {
+    // With an answer in the place of the top.
+    pub fn with_top(self, top: Result<Chain, Refusal>) -> Stack {
         Stack {
             top,
             second: self.second,
@@ -90,8 +100,8 @@ impl Stack {
         }
     }
 
-    // With a chain in the place of the two uppermost ones.
-    pub fn with_both(self, top: Chain) -> Stack {
+    // With an answer in the place of the two uppermost ones.
+    pub fn with_both(self, top: Result<Chain, Refusal>) -> Stack {
         Stack {
             top,
             second: self.third,
@@ -114,19 +124,19 @@ fn shifted(f: Chain) -> Result<Chain, Refusal> {
 
 // The chain that has another one's elements for coefficients.
 fn of_elements(f: Chain) -> Result<Chain, Refusal> {
-    let count = held(f);
+    let count = f.length.wrapping_add(1).min(17);
     chain_coefficients::from_coefficients(&f.elements[..count])
 }
 
 // A list of words, or m or o with a length. The length of a listed chain is one less than the words, so over 16 from 18 words on.
-fn operand(token: &[u8]) -> Chain {
+pub fn operand(token: &[u8]) -> Chain {
     match token {
-        [b'm', length @ ..] => Chain {
-            length: text::number(length) as usize,
+        [b'm', ..] => Chain {
+            length: text::number(token, 0) as usize,
             elements: M,
         },
-        [b'o', length @ ..] => Chain {
-            length: text::number(length) as usize,
+        [b'o', ..] => Chain {
+            length: text::number(token, 0) as usize,
             elements: O,
         },
         _ => {
@@ -141,42 +151,45 @@ fn operand(token: &[u8]) -> Chain {
 
 // The stack after a token. A list of words pushes a chain, and so does m or o with a length. An operator is a single byte: + - * take the
 // two uppermost chains; E shifts the top, T trims it, C takes its words as coefficients and D pushes it again. The other letters are in `backward`.
-fn step(stack: Stack, token: &[u8]) -> Result<Stack, Refusal> {
-    let f = stack.second;
-    let g = stack.top;
-    Ok(match token {
-        [b'+'] => stack.with_both(chain_calls::sum(f, g)?),
-        [b'-'] => stack.with_both(chain_calls::difference(f, g)?),
-        [b'*'] => stack.with_both(chain_calls::product(f, g)?),
-        [b'E'] => stack.with_top(shifted(g)?),
-        [b'T'] => stack.with_top(chain_calls::trim(g)?),
-        [b'C'] => stack.with_top(of_elements(g)?),
-        [b'D'] => stack.pushed(g),
-        [letter] if letter.is_ascii_alphabetic() => backward::step(stack, *letter)?,
-        _ => stack.pushed(operand(token)),
-    })
+fn step(stack: Stack, token: &[u8]) -> Stack {
+    let f = stack.second();
+    let g = stack.top();
+    match token {
+        [b'+'] => stack.with_both(chain_calls::sum(f, g)),
+        [b'-'] => stack.with_both(chain_calls::difference(f, g)),
+        [b'*'] => stack.with_both(chain_calls::product(f, g)),
+        [b'E'] => stack.with_top(shifted(g)),
+        [b'T'] => stack.with_top(chain_calls::trim(g)),
+        [b'C'] => stack.with_top(of_elements(g)),
+        [b'D'] => stack.pushed(stack.top),
+        [letter] if b'A' <= *letter => backward::step(stack, *letter),
+        _ => stack.pushed(Ok(operand(token))),
+    }
 }
 
-// The stack's top after all tokens, or the first refusal.
+// The answer on the stack's top after all tokens.
 pub fn work(tokens: &[u8]) -> Result<Chain, Refusal> {
     let mut stack = Stack::new();
-    let tokens = tokens
-        .split(|byte| *byte == b' ')
-        .filter(|token| !token.is_empty());
-    for token in tokens {
-        stack = step(stack, token)?;
+    for token in tokens.split_inclusive(|byte| *byte == b' ') {
+        stack = step(stack, text::unmarked(token, b' '));
     }
-    Ok(stack.top)
+    stack.top
+}
+
+// The chain that is worked out; a refusal stands for the constant 0.
+pub fn worked(tokens: &[u8]) -> Chain {
+    work(tokens).unwrap_or(ZERO)
 }
 
 // number place length elements, and whether the words past the length are clean
-pub fn print(rt: &impl Print, name: &str, answer: Result<Chain, Refusal>) -> io::Result<()> {
+pub fn print(rt: &impl Print, name: &[u8], answer: Result<Chain, Refusal>) -> io::Result<()> {
     let judgement = Judgement::of(&answer);
     let f = answer.unwrap_or(ZERO);
     let count = held(f);
     let (held, rest) = f.elements.split_at(count);
+    rt.write_all(name)?;
     println!(rt;
-        "{name}\t{judgement} {} {} {}",
+        "\t{judgement} {} {} {}",
         f.length,
         List(held),
         clean(rest)
@@ -186,48 +199,48 @@ pub fn print(rt: &impl Print, name: &str, answer: Result<Chain, Refusal>) -> io:
 // number place word: the present value
 pub fn value<F: Fn(Chain) -> Result<u64, Refusal>>(
     rt: &impl Print,
-    name: &str,
+    name: &[u8],
     body: &[u8],
     present: F,
 ) -> io::Result<()>
     requires { F.IsAlwaysCallable present }
 {
-    let answer = work(body).and_then(present);
+    let answer = present(worked(body));
+    rt.write_all(name)?;
     println!(rt;
-        "{name}\t{} {}",
+        "\t{} {}",
         Judgement::of(&answer),
         answer.unwrap_or(0)
     )
 }
 
-// The values at 20 indices: the present one, and then what a step makes of the chain, in turn.
+// The values at 20 indices: the present one, and then what a step makes of the chain, in turn. What is refused is 0.
 pub fn values<F: Fn(Chain) -> Result<u64, Refusal>, G: Fn(Chain) -> Result<Chain, Refusal>>(
     first: Chain,
     present: F,
     next: G,
-) -> Result<[u64; 20], Refusal>
+) -> [u64; 20]
     requires present { F.IsAlwaysCallable present }
     requires next { G.IsAlwaysCallable next }
 {
     let mut f = first;
     let mut values = [0; 20];
     for value in values.iter_mut() {
-        *value = present(f)?;
-        f = next(f)?;
+        *value = present(f).unwrap_or(0);
+        f = next(f).unwrap_or(ZERO);
     }
-    Ok(values)
+    values
 }
 
 // value,value,.. at the first 20 indices
-pub fn sequence(rt: &impl Print, name: &str, body: &[u8]) -> io::Result<()> {
-    match work(body).and_then(|f| values(f, chain_calls::value, shifted)) {
-        Ok(values) => println!(rt; "{name}\t{}", List(&values)),
-        Err(refusal) => println!(rt; "{name}\t{}", Judgement::from(refusal)),
-    }
+pub fn sequence(rt: &impl Print, name: &[u8], body: &[u8]) -> io::Result<()> {
+    let values = values(worked(body), chain_calls::value, shifted);
+    rt.write_all(name)?;
+    println!(rt; "\t{}", List(&values))
 }
 
 // The chain of a list of coefficients, which may be empty or have more than 17 words.
-pub fn list(rt: &impl Print, name: &str, body: &[u8]) -> io::Result<()> {
+pub fn list(rt: &impl Print, name: &[u8], body: &[u8]) -> io::Result<()> {
     let words = words::list::<MOST_LISTED>(body);
     let count = words::count(body).min(MOST_LISTED);
     print(

@@ -36,14 +36,17 @@ fn print_tree(rt: &impl Print, tree: &[u64; LENT_WORDS]) -> io::Result<()> {
 }
 
 // The case says how many words are lent, or nothing. Of a refused formula it is told whether all words stayed.
-pub fn reading(rt: &impl Print, name: &str, formula: &[u8], lent: &str) -> io::Result<()> {
+pub fn reading(rt: &impl Print, name: &[u8], formula: &[u8], lent: &[u8]) -> io::Result<()> {
     let mut tree = [0; LENT_WORDS];
     words::paint(&mut tree);
     let mut count = LENT_WORDS;
-    print!(rt; "read {name}")?;
+    rt.print("read ")?;
+    rt.write_all(name)?;
     if !lent.is_empty() {
-        print!(rt; " into {lent} words")?;
-        count = count.min(text::number(lent.as_bytes()) as usize);
+        rt.print(" into ")?;
+        rt.write_all(lent)?;
+        rt.print(" words")?;
+        count = count.min(text::number(lent, 0) as usize);
     }
     let answer = formula_read::read(formula, &mut tree[..count]);
     print!(rt; "\t{} ", Judgement::of(&answer))?;

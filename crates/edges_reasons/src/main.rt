@@ -4,10 +4,10 @@
 
 use edges_print::Judgement;
 use edges_text::rows::{CasePlan, Grid};
-use edges_text::{input, notation, rows, text, words};
+use edges_text::{input, notation, rows, text};
 use plan::MOST_ROWS;
 use reason::Explained;
-use std::{io, str};
+use std::io;
 
 // One byte more than the input may have.
 const MOST_READ: usize = 65536;
@@ -36,7 +36,7 @@ fn compile_on(rt: &impl Print, formula: &[u8], grid: Grid, plan: &mut CasePlan) 
 // Does what a token says. r5 asks for row 5, =x^3 compiles a formula and g5,2:x^3 does on a grid; the others write the plan.
 fn step(rt: &impl Print, token: &[u8], plan: &mut CasePlan) -> io::Result<()> {
     match token {
-        [b'r', row @ ..] => ask(rt, plan.lent(), text::number(row) as usize),
+        [b'r', row @ ..] => ask(rt, plan.lent(), text::number(row, 0) as usize),
         [b'=', formula @ ..] => compile_on(rt, formula, rows::PLAIN, plan),
         [b'g', gridded @ ..] => {
             let grid = rows::grid_of(text::before(gridded, b':'));
@@ -50,14 +50,11 @@ fn step(rt: &impl Print, token: &[u8], plan: &mut CasePlan) -> io::Result<()> {
 }
 
 // The line is the case's name too; its tokens have their repeats written out. Last, every row is asked for from row 0 to the one past the last.
-fn run(rt: &impl Print, line: &str, tokens: &[u8]) -> io::Result<()> {
+fn run(rt: &impl Print, line: &[u8], tokens: &[u8]) -> io::Result<()> {
     let mut plan = CasePlan::new();
-    rt.print(line)?;
-    let tokens = tokens
-        .split(|byte| *byte == b' ')
-        .filter(|token| !token.is_empty());
-    for token in tokens {
-        step(rt, token, &mut plan)?;
+    rt.write_all(line)?;
+    for token in tokens.split_inclusive(|byte| *byte == b' ') {
+        step(rt, text::unmarked(token, b' '), &mut plan)?;
     }
     let last = (plan.words[0] as usize).min(MOST_ROWS);
     for row in 0..=last {
@@ -67,17 +64,19 @@ fn run(rt: &impl Print, line: &str, tokens: &[u8]) -> io::Result<()> {
 }
 
 // Runs a case, unless the line is empty or a comment.
-fn turn(rt: &impl Print, line: &str) -> io::Result<()> {
-    if line.is_empty() || line.starts_with(';') {
-        return Ok(());
+fn turn(rt: &impl Print, line: &[u8]) -> io::Result<()> {
+    match line {
+        [] | [0 | b';', ..] => Ok(()),
+        _ => {
+            let mut bytes = [0; 2000];
+            run(rt, line, notation::expand(line, &mut bytes))
+        }
     }
-    let mut bytes = [0; 2000];
-    run(rt, line, notation::expand(line.as_bytes(), &mut bytes))
 }
 
-fn walk(rt: &impl Print, cases: &str) -> io::Result<()> {
-    for line in cases.lines() {
-        turn(rt, line)?;
+fn walk(rt: &impl Print, cases: &[u8]) -> io::Result<()> {
+    for line in cases.split_inclusive(|byte| *byte == b'\n') {
+        turn(rt, text::unmarked(line, b'\n'))?;
     }
     Ok(())
 }
@@ -85,11 +84,9 @@ fn walk(rt: &impl Print, cases: &str) -> io::Result<()> {
 fn main(rt: HostRuntime) -> io::Result<()> {
     let mut cases = [0; MOST_READ];
     let count = input::read_full(&mut rt.stdin(), &mut cases)?;
-    if count == MOST_READ {
-        return rt.println("the input is longer than 65535 bytes");
-    }
-    match str::from_utf8(&cases[..count]) {
-        Ok(cases) => walk(&rt, cases),
-        Err(_) => rt.println("the input is no text"),
+    if count < MOST_READ {
+        walk(&rt, &cases[..count])
+    } else {
+        rt.println("the input is longer than 65535 bytes")
     }
 }

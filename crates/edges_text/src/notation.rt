@@ -4,49 +4,61 @@ ghost use Rattle.std.specs.Prelude.{◌≤◌, length};
 
 use crate::text;
 
-// Writes bytes behind those that are written so far, as far as there is room, and answers the new end.
-fn written(bytes: &[u8], out: &mut [u8], end: usize) -> usize
+// Writes a byte behind those that are written so far, if there is room, and answers the new end.
+fn written(byte: u8, out: &mut [u8], end: usize) -> usize
     requires { end ≤ length out.old }
     ensures { result ≤ length out.new }
 {
-    let room = &mut out[end..];
-    let count = bytes.len().min(room.len());
-    room[..count].copy_from_slice(&bytes[..count]);
-    end + count
+    match out.get_mut(end) {
+        Some(place) => {
+            *place = byte;
+            end + 1
+        }
+        None => end,
+    }
 }
 
-// The same of a repeat, as 3:+x.
-fn repeated(repeat: &[u8], out: &mut [u8], end: usize) -> usize
+// The same of a repeat, with which a text begins, as {3:+x}: as many bytes as its size and its number make, as far as there is room.
+fn repeated(text: &[u8], out: &mut [u8], end: usize) -> usize
     requires { end ≤ length out.old }
     ensures { result ≤ length out.new }
 {
-    let times = text::number(text::before(repeat, b':'));
-    let bytes = text::after(repeat, b':');
-    let mut last = end;
-    for _ in 0..times {
-        last = written(bytes, out, last);
+    let times = text::number(text::before(text, b':'), 0);
+    let bytes = text::after(text, b':');
+    let inside = text::before(text, b'}').len();
+    let size = inside.wrapping_sub(text.len() - bytes.len());
+    if size == 0 {
+        return end;
     }
-    last
+    let total = times.wrapping_mul(size as u64) as usize;
+    let stop = end.wrapping_add(total).min(out.len());
+    let Some(room) = out.get_mut(end..stop) else {
+        return end;
+    };
+    for (i, place) in room.iter_mut().enumerate() {
+        *place = bytes.get(i % size).copied().unwrap_or(0);
+    }
+    stop
 }
 
 // Writes the bytes that the notation stands for, as far as there is room, and lends them.
 pub fn expand<'a>(notation: &[u8], out: &'a mut [u8]) -> &'a mut [u8] {
     let mut end = 0;
     let mut rest = notation;
-    // Kept: (d) how long a token is shows as it is read, so no iterator of the library parts the notation in tokens.
+    // Kept: how long a token is shows as it is read, so no iterator of the library parts the notation in tokens.
     while let Some((first, behind)) = rest.split_first() {
         match first {
             b'{' => {
-                end = repeated(text::before(behind, b'}'), out, end);
+                end = repeated(rest, out, end);
                 rest = text::after(behind, b'}');
             }
             b'<' => {
-                let byte = text::number(text::before(behind, b'>')) % 256;
-                end = written(&[byte as u8], out, end);
+                let byte = text::number(text::before(rest, b'>'), 0) % 256;
+                end = written(byte as u8, out, end);
                 rest = text::after(behind, b'>');
             }
             _ => {
-                end = written(&[*first], out, end);
+                end = written(*first, out, end);
                 rest = behind;
             }
         }

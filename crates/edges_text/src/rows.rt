@@ -42,8 +42,8 @@ impl CasePlan {
     // Does what a token says: #2816 lends 2,816 words, @40,7,8 puts 7 and 8 in the words from 40 on, and any other one is the next row.
     pub fn write(&mut self, token: &[u8]) {
         match token {
-            [b'#', count @ ..] => self.lent = text::number(count) as usize,
-            [b'@', list @ ..] => plant(list, &mut self.words),
+            [b'#', ..] => self.lent = text::number(token, 0) as usize,
+            [b'@', ..] => plant(token, &mut self.words),
             _ => add(token, &mut self.words),
         }
     }
@@ -51,28 +51,23 @@ impl CasePlan {
 
 // The next row. Its text is the first byte, unless the token has a word for its end.
 pub fn add(token: &[u8], plan: &mut [u64]) {
-    let Some((count, rows)) = plan.split_first_mut() else {
-        return;
-    };
-    let r = *count;
-    *count = r.wrapping_add(1);
-    let start = (r as usize).wrapping_mul(ROW_WORDS);
-    if let Some(row) = rows.get_mut(start..) {
-        words::put(row, END_BYTE, 1);
-        words::put_list(token, r, row);
-    }
+    let r = words::word_at(plan, 0);
+    let start = r.wrapping_mul(ROW_WORDS as u64).wrapping_add(1) as usize;
+    words::put(plan, start.wrapping_add(END_BYTE), 1);
+    words::put_list(token, r, plan, start);
+    words::put(plan, 0, r.wrapping_add(1));
 }
 
-// Words at a place of their own: 40,7,8 are 7 and 8 from the place 40 on.
-pub fn plant(list: &[u8], plan: &mut [u64]) {
-    let start = text::number(text::before(list, b',')) as usize;
-    if let Some(room) = plan.get_mut(start..) {
-        words::put_list(text::after(list, b','), 0, room);
-    }
+// Words at a place of their own: @40,7,8 is 7 and 8 from the place 40 on.
+pub fn plant(token: &[u8], plan: &mut [u64]) {
+    let start = text::number(text::before(token, b','), 0) as usize;
+    words::put_list(text::after(token, b','), 0, plan, start);
 }
 
 // 5,2 has start 5 and step 2.
 pub fn grid_of(list: &[u8]) -> Grid {
-    let [start, step] = words::list::<2>(list);
-    Grid { start, step }
+    Grid {
+        start: text::number(text::before(list, b','), 0),
+        step: text::number(text::after(list, b','), 0),
+    }
 }

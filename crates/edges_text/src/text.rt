@@ -32,8 +32,16 @@ pub fn after(text: &[u8], mark: u8) -> &[u8]
     }
 }
 
-// The word of the digits, modulo 2^64, other bytes being passed over; its negative after a minus sign.
-pub fn number(text: &[u8]) -> u64 {
+// A part that a text is split into, without the mark that ends it.
+pub fn unmarked(part: &[u8], mark: u8) -> &[u8] {
+    match part {
+        [before @ .., last] if *last == mark => before,
+        _ => part,
+    }
+}
+
+// The word of the digits, modulo 2^64, other bytes being passed over; its negative after a minus sign, and r less it after a ~.
+pub fn number(text: &[u8], r: u64) -> u64 {
     let mut value = 0u64;
     for byte in text {
         if byte.is_ascii_digit() {
@@ -42,6 +50,7 @@ pub fn number(text: &[u8]) -> u64 {
     }
     match text {
         [b'-', ..] => value.wrapping_neg(),
+        [b'~', ..] => r.wrapping_sub(value),
         _ => value,
     }
 }

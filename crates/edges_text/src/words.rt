@@ -23,33 +23,22 @@ pub fn put(words: &mut [u64], at: usize, word: u64) {
 
 // How many words a list has.
 pub fn count(list: &[u8]) -> usize {
-    list.split(|byte| *byte == b',')
-        .filter(|part| !part.is_empty())
-        .count()
+    list.split_inclusive(|byte| *byte == b',').count()
 }
 
-// A word of a list. ~1 stands for r - 1.
-fn listed(part: &[u8], r: u64) -> u64 {
-    match part {
-        [b'~', back @ ..] => r.wrapping_sub(text::number(back)),
-        _ => text::number(part),
-    }
-}
-
-// Puts the words of a list, as far as there are places.
-pub fn put_list(list: &[u8], r: u64, words: &mut [u64]) {
-    let parts = list
-        .split(|byte| *byte == b',')
-        .filter(|part| !part.is_empty());
-    for (word, part) in words.iter_mut().zip(parts) {
-        *word = listed(part, r);
+// Puts the words of a list from a place on, as far as there are places. ~1 stands for r - 1.
+pub fn put_list(list: &[u8], r: u64, words: &mut [u64], start: usize) {
+    let parts = list.split_inclusive(|byte| *byte == b',');
+    for (i, part) in parts.enumerate() {
+        let word = text::number(text::unmarked(part, b','), r);
+        put(words, start.wrapping_add(i), word);
     }
 }
 
 // The first words of a list.
 pub fn list<const N: usize>(text: &[u8]) -> [u64; N] {
     let mut words = [UNREAD; N];
-    put_list(text, 0, &mut words);
+    put_list(text, 0, &mut words, 0);
     words
 }
 
