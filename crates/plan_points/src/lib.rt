@@ -54,6 +54,7 @@ fn shift_row(row: &mut [u64])
     requires row_bound_2 { is_chain (kind row.old) ≡ true → word_a row.old < element_count }
     ensures { row.new ≡ shifted_row 64 row.old }
 {
+    // Kept: (c) in a `match` on the row's `RowKind` the last arm becomes a goal for each kind, under names that may not be cited.
     let kind = row[0];
     let end = ELEMENTS_START + (1 + row[1] as usize);
     if kind == SUM_CHAIN {

@@ -6,7 +6,8 @@ ghost use Rattle.plan_rows.specs.Kinds.{kind_number, ReadsKind};
 
 use plan::Kind;
 
-// The kinds of 01's table.
+// The kinds of 01's table, by their numbers.
+// Kept: (a) word 0 of a row in a lent plan is such a number, which the fold writes and compares; the theorems on rows hold these numbers.
 pub const CONSTANT: u64 = 0;
 
 pub const SUM_CHAIN: u64 = 1;
@@ -127,6 +128,7 @@ pub fn facts(kind: RowKind) -> Kind
 }
 
 // The operand rows of a row of this kind; none of what is no kind.
+// Kept: (a) any number may be asked, here and of `is_chain`: no parameter of a public function narrows.
 pub fn operand_count(kind: u64) -> u64
     ensures { result ≡ operand_count kind }
 {

@@ -74,6 +74,7 @@ pub fn sound(plan: &[u64]) -> Result<(), Refusal>
 }
 
 // The refusal's number, or 0.
+// Kept: (a) a public call whose contract, `refusal` of plan/specs/Plan.antt, answers the number.
 pub fn refusal(plan: &[u64]) -> u64
     ensures { result ≡ refusal plan.now }
 {
