@@ -38,11 +38,7 @@ fn on_grid(rt: &impl Print, formula: &[u8], grid: Grid) -> io::Result<()> {
     let cost = plan_costs::cost(&plan).unwrap_or(0);
     print!(rt; "grid {start},{step} ")?;
     rt.write_all(formula)?;
-    print!(rt;
-        "\t{} rows {}",
-        Judgement::of(&answer),
-        plan[0]
-    )?;
+    print!(rt; "\t{} rows {}", Judgement::of(&answer), plan[0])?;
     print!(rt; " cost {cost} sum {}", words::checksum(&plan))?;
     fill_part(&mut plan, &mut once, 0, VALUES, u64::MAX);
     let _ = compile::compile(formula, start, step, &mut plan);

@@ -11,9 +11,6 @@ use edges_calls::{backward, chains, formulas, probes};
 use edges_text::{input, notation, text};
 use std::io;
 
-// One byte more than the input may have.
-const MOST_READ: usize = 65536;
-
 // A case is a name and a body with a bar between them. The section's first letter says what they are; a plan, a formula on grids and a
 // job file are the whole line, and a formula's text is its name. `line` is as written, `expanded` has its repeats written out.
 fn case(rt: &impl Print, section: u8, line: &[u8], expanded: &[u8]) -> io::Result<()> {
@@ -59,9 +56,9 @@ fn walk(rt: &impl Print, cases: &[u8]) -> io::Result<()> {
 }
 
 fn main(rt: HostRuntime) -> io::Result<()> {
-    let mut cases = [0; MOST_READ];
+    let mut cases = [0; input::MOST_READ];
     let count = input::read_full(&mut rt.stdin(), &mut cases)?;
-    if count < MOST_READ {
+    if count < input::MOST_READ {
         walk(&rt, &cases[..count])
     } else {
         rt.println("the input is longer than 65535 bytes")

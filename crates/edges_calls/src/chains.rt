@@ -188,12 +188,7 @@ pub fn print(rt: &impl Print, name: &[u8], answer: Result<Chain, Refusal>) -> io
     let count = held(f);
     let (held, rest) = f.elements.split_at(count);
     rt.write_all(name)?;
-    println!(rt;
-        "\t{judgement} {} {} {}",
-        f.length,
-        List(held),
-        clean(rest)
-    )
+    println!(rt; "\t{judgement} {} {} {}", f.length, List(held), clean(rest))
 }
 
 // number place word: the present value
@@ -207,11 +202,7 @@ pub fn value<F: Fn(Chain) -> Result<u64, Refusal>>(
 {
     let answer = present(worked(body));
     rt.write_all(name)?;
-    println!(rt;
-        "\t{} {}",
-        Judgement::of(&answer),
-        answer.unwrap_or(0)
-    )
+    println!(rt; "\t{} {}", Judgement::of(&answer), answer.unwrap_or(0))
 }
 
 // The values at 20 indices: the present one, and then what a step makes of the chain, in turn. What is refused is 0.

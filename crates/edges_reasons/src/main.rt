@@ -9,9 +9,6 @@ use plan::MOST_ROWS;
 use reason::Explained;
 use std::io;
 
-// One byte more than the input may have.
-const MOST_READ: usize = 65536;
-
 // number place reason first end
 fn ask(rt: &impl Print, plan: &[u64], row: usize) -> io::Result<()> {
     let answer = reason_call::reason(plan, row);
@@ -74,6 +71,7 @@ fn turn(rt: &impl Print, line: &[u8]) -> io::Result<()> {
     }
 }
 
+// Kept: `edges` has a walk of its own, which hands the section on from line to line.
 fn walk(rt: &impl Print, cases: &[u8]) -> io::Result<()> {
     for line in cases.split_inclusive(|byte| *byte == b'\n') {
         turn(rt, text::unmarked(line, b'\n'))?;
@@ -82,9 +80,9 @@ fn walk(rt: &impl Print, cases: &[u8]) -> io::Result<()> {
 }
 
 fn main(rt: HostRuntime) -> io::Result<()> {
-    let mut cases = [0; MOST_READ];
+    let mut cases = [0; input::MOST_READ];
     let count = input::read_full(&mut rt.stdin(), &mut cases)?;
-    if count < MOST_READ {
+    if count < input::MOST_READ {
         walk(&rt, &cases[..count])
     } else {
         rt.println("the input is longer than 65535 bytes")

@@ -78,6 +78,7 @@ pub fn is_sum(plan: &PlanWords, r: usize) -> bool
 }
 
 // An operator's row behind its operands.
+// Kept: `kind` is a number, since a parameter of a call between crates keeps all its values.
 pub fn append(plan: &mut PlanWords, end: usize, kind: u64, a: u64, b: u64)
     requires { end < most_rows }
     ensures { plan.new ≡ with_row plan.old end (row_words kind a b [] no_span) }

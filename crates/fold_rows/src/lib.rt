@@ -62,6 +62,7 @@ pub fn write(plan: &mut [u64], r: usize, kind: u64, a: u64, b: u64, elements: [u
 }
 
 // The row of a chain of the given kind; a chain of length 0 is a constant.
+// Kept: `kind` is a number, since a parameter of a call between crates keeps all its values.
 pub fn put_chain(plan: &mut PlanWords, r: usize, kind: u64, f: Chain)
     requires { r < most_rows }
     ensures { plan.new ≡ with_row plan.old r (cond (eqb f.length 0) 0 kind ∷ f.length ∷ 0 ∷ f.elements ++ 0 ∷ 0 ∷ []) }

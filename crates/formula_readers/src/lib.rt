@@ -35,6 +35,9 @@ fn is_sign(byte: u8) -> bool
     matches!(byte, b'+' | b'-')
 }
 
+// Kept: text, tree, place, nodes and fault come apart in all readers: a struct of the five would stand in memory at each of 32 brackets, where words travel in
+// registers (8 KiB of stack), and FORMS.md has a slice-and-number core below the cursor.
+
 // A sum in brackets, the ( at a place: the sum and the ) after it.
 #[cycle(read_atom_read_bracket_read_factor_read_power_read_product_read_sum)]
 fn read_bracket(

@@ -22,6 +22,7 @@ pub const PLAN_WORDS: usize = 1 + MOST_ROWS * ROW_WORDS;
 pub type PlanWords = [u64; PLAN_WORDS];
 
 // No text that a row came from ends past this many bytes.
+// Kept: `formula` has this limit as well; formulas live above plans, and a lent plan's spans need none of them.
 pub const LONGEST_TEXT: u64 = 1024;
 
 // What a row of a kind always costs, and how many operand rows it has.

@@ -23,6 +23,7 @@ pub fn print_bad_line(n: u64, bad: BadLine, out: &mut [u8]) -> usize
 }
 
 // The points of a compiled plan: a line for each word of the table.
+// Kept: the buffer and its place come apart, as in `table_job_lines::write_points`.
 fn print_points(plan: &mut [u64], table: &mut [u64], out: &mut [u8], at: usize) -> usize
     requires plan_value { refusal plan.old ≡ 0 }
     requires table_len_bound { length table.old ≤ 4096 }
