@@ -52,7 +52,7 @@ fn print_plan(
     ensures { PlanPrinted tool n formula.now plan.old table.old out.old result
         plan.new table.new out.new }
 {
-    let cost = plan_costs::plan_cost(plan);
+    let cost = plan_costs::cost(plan).unwrap_or(0);
     let at = table_job_lines::write_job_line(out, n, plan[0], cost);
     match tool {
         Tool::Tables => print_points(plan, table, out, at),
