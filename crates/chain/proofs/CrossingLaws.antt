@@ -9,7 +9,7 @@ use native.Mathlib.Omega.{arith}
 use borrow.Author.Tests.{ltb-true, ltb-false, lt-ltb, le-ltb, le-leb, lt-leb}
 use lib.Dec.{T, ltb, le→leb}
 use lib.IntN.{ℤ, pos, negsuc, ◌+ℤ◌, ◌-ℤ◌, ◌*ℤ◌}
-use lib.ListN.{length, get_or, take, length-map}
+use lib.ListN.{length, get_or, take}
 use lib.Pow.{pow_pos}
 use lib.Signed.{le_z, lt_z, ◌≤ℤ◌, ◌<ℤ◌, le_z_yes, lt_z_yes, clash_ℤ}
 use Rattle.word.specs.Signed.{half, signed}
@@ -17,11 +17,9 @@ use Rattle.word.proofs.SignedWords.{below_minus, signed_low, signed_high}
 use Rattle.word.proofs.WholeNumbers.{passed, failed}
 use Rattle.chain.specs.Chain.{value, rest, words, trimmed, row, shift}
 use Rattle.chain.specs.SumChain.{sum_shift}
-use Rattle.chain.specs.Answer.{given, shift_answer}
+use Rattle.chain.specs.Answer.{ChainAnswer, answered, chain, given, with_crossing, shift_answer}
 use Rattle.chain.specs.Crossing.{signed_step, crossed_by, crossing}
-use Rattle.chain.proofs.Trimming.{row-trimmed, length-row}
-use Rattle.chain.proofs.Rows.{row-whole}
-use Rattle.chain.proofs.Shifting.{length_shift}
+use Rattle.chain.proofs.Trimming.{row-trimmed}
 use Rattle.chain.proofs.Calls.{shift_trims}
 
 -- A number that is 2^w or more is not below 0.
@@ -140,31 +138,14 @@ crossing-kept w f k {e} kept fits =
     second : get_or e 1 0 ≡ value 0 (rest (given f k))
     second = ap (λ g. get_or g 1 0) kept ∙ sym (ap (λ g. get_or g 1 0) (row-trimmed 2 (take (k + 1) f)))
 
--- What the code of an accepted shift answers: the kept words shifted, their trimmed length, and the crossing of the first two.
-pub shift-done : (f : List ℕ) (k : ℕ) → length f ≡ 17 → k ≤ 16 → {kept shifted : List ℕ} {n : ℕ} {z : ℤ}
-    → kept ≡ row 17 (take (k + 1) f) → get_or kept 0 0 < 2 ^ 64 → shifted ≡ words 64 (sum_shift kept) → n ≡ length (trimmed 0 shifted) - 1
-    → z ≡ crossed_by 64 (get_or kept 0 0) (signed 64 (get_or kept 1 0))
-    → record { number = 0; place = 0; length = n; elements = shifted; crossing = z } ≡ shift_answer 64 f k
-shift-done f k long short {kept} {shifted} {n} {z} keeps fits shifts counts crosses =
+-- What the code of an accepted shift answers: the kept words shifted and trimmed, and the crossing of the first two.
+pub shift-done : (f : List ℕ) (k : ℕ) → length f ≡ 17 → k ≤ 16 → {kept shifted : List ℕ} {answer : ChainAnswer} {z : ℤ}
+    → kept ≡ row 17 (take (k + 1) f) → get_or kept 0 0 < 2 ^ 64 → shifted ≡ words 64 (sum_shift kept) → answer ≡ answered (chain (trimmed 0 shifted))
+    → z ≡ crossed_by 64 (get_or kept 0 0) (signed 64 (get_or kept 1 0)) → with_crossing answer z ≡ shift_answer 64 f k
+shift-done f k long short {kept} {shifted} keeps fits shifts trims crosses =
     rw (le-ltb 16 k short)
-    (λ i. record { number = 0; place = 0; length = counted i; elements = same i; crossing = (crosses ∙ crossing-kept 64 f k keeps fits) i })
-  where
-    trims : trimmed 0 shifted ≡ trimmed 0 (words 64 (sum_shift (given f k)))
-    trims = ap (trimmed 0) (shifts ∙ ap (λ g. words 64 (sum_shift g)) keeps) ∙ shift_trims 64 f k long
-
-    counted : n ≡ length (trimmed 0 (words 64 (sum_shift (given f k)))) - 1
-    counted = counts ∙ ap (λ g. length g - 1) trims
-
-    whole : length shifted ≡ 17
-    whole =
-        ap length shifts
-        ∙ length-map (sum_shift kept) (λ a. a % 2 ^ 64)
-        ∙ length_shift ◌+◌ kept
-        ∙ ap length keeps
-        ∙ length-row 17 (take (k + 1) f)
-
-    same : shifted ≡ row 17 (trimmed 0 (words 64 (sum_shift (given f k))))
-    same = sym (row-whole 17 shifted whole) ∙ sym (row-trimmed 17 shifted) ∙ ap (row 17) trims
+    (ap₂ with_crossing (trims ∙ ap (λ g. answered (chain (trimmed 0 g))) (shifts ∙ ap (λ g. words 64 (sum_shift g)) keeps) ∙ ap (λ g. answered (chain g)) (shift_trims 64 f k long))
+    (crosses ∙ crossing-kept 64 f k keeps fits))
 
 -- One shift of a chain of words: the exact value after it is the first element then and 2^w times the crossing.
 pub exact_shift : (w : ℕ) (f : List ℕ) → ((i : ℕ) → get_or f i 0 < 2 ^ w)

@@ -14,4 +14,5 @@ pub mod CoefficientLaws
 pub mod OntoTable
 pub mod BackwardCalls
 pub mod Promises
+pub mod Decoding
 pub mod CrossingLaws

@@ -8,11 +8,8 @@ use lib.Dec.{ltb}
 use lib.IntN.{pos}
 use lib.ListN.{take}
 use Rattle.word.proofs.Unique.{both_are}
-use Rattle.chain.specs.declared.ChainAnswer.{ChainAnswer}
-use Rattle.chain.specs.declared.ShiftAnswer.{ShiftAnswer}
-use Rattle.chain.specs.declared.ValueAnswer.{ValueAnswer}
 use Rattle.chain.specs.Chain.{words, trimmed}
-use Rattle.chain.specs.Answer.{answered, chain, given, unless_long, unless_over, trim_outcome, sum_outcome, difference_outcome, product_outcome, with_crossing, shift_answer, coefficients_outcome, value_answer}
+use Rattle.chain.specs.Answer.{ChainAnswer, ShiftAnswer, ValueAnswer, answered, chain, given, unless_long, unless_over, trim_outcome, sum_outcome, difference_outcome, product_outcome, with_crossing, shift_answer, coefficients_outcome, value_answer}
 use Rattle.chain.specs.Crossing.{crossing}
 use Rattle.chain.specs.SumChain as SumChain
 use Rattle.chain.specs.BackwardChain as BackwardChain

@@ -1,10 +1,11 @@
 -- Rows: what an array of n words holds of a chain, entry by entry, and what a loop that fills one has written so far.
 use mathlib.Core.Path.{◌≡◌, refl, sym, ap, ap₂, ◌∙◌}
-use mathlib.Core.List.{List, [], ◌∷◌, map}
-use Prim.Native.Nat.{ℕ, zero, suc, ◌+◌, ◌%◌, ◌^◌, ◌<◌}
+use mathlib.Core.List.{List, [], ◌∷◌, ◌++◌, map}
+use Prim.Native.Nat.{ℕ, zero, suc, ◌+◌, ◌%◌, ◌^◌, ◌<◌, ◌≤◌}
 use native.Mathlib.Nat.{zero-mod, mod-eq_of_lt, le_of_suc-le-suc, not-suc-le-zero}
 use native.Mathlib.Numerals.{add-one}
-use lib.ListN.{length, get_or, take, set}
+use native.Mathlib.Omega.{arith}
+use lib.ListN.{length, get_or, take, drop, set}
 use lib.Seq.{take-nil}
 use Rattle.chain.specs.Chain.{value, rest, words, row}
 
@@ -50,6 +51,15 @@ row-take (suc n) (a ∷ f) = ap {B = List ℕ} (λ g. a ∷ g) (row-take n f)
 pub words-whole : (w : ℕ) (f : List ℕ) → ((i : ℕ) → get_or f i 0 < 2 ^ w) → words w f ≡ f
 words-whole w [] fits = refl
 words-whole w (a ∷ f) fits = ap₂ {B = List ℕ} {C = List ℕ} ◌∷◌ (mod-eq_of_lt (fits 0)) (words-whole w f (λ i. fits (suc i)))
+
+-- n elements laid over the first n words of an array of zeros.
+pub row-laid : (n m : ℕ) (f : List ℕ) → length f ≡ m → m ≤ n → f ++ drop m (row n []) ≡ row n f
+unfolding row
+row-laid n zero [] e h = refl
+row-laid n (suc m) [] e h = absurd (omega arith)
+row-laid n zero (a ∷ f) e h = absurd (omega arith)
+row-laid zero (suc m) (a ∷ f) e h = absurd (not-suc-le-zero h)
+row-laid (suc n) (suc m) (a ∷ f) e h = ap {B = List ℕ} (λ g. a ∷ g) (row-laid n m f (omega arith) (le_of_suc-le-suc h))
 
 -- ---- a loop that fills an array of zeros: after i turns it holds the first i elements of h
 store : (n i : ℕ) (h : List ℕ) → i < n → set (row n (take i h)) i (get_or h i 0) ≡ row n (take (suc i) h)

@@ -4,11 +4,12 @@ use mathlib.Core.Bool.{Bool, true, false, cond}
 use mathlib.Core.List.{List, [], ◌∷◌}
 use Prim.Native.Nat.{ℕ, zero, suc, ◌+◌, ◌-◌, ◌*◌, ◌%◌, ◌^◌, ◌<◌, ◌≤◌}
 use native.Mathlib.Nat.{add-zero, mul-one, zero-mul, add-mod-mod, le_of_suc-le-suc, not-suc-le-zero}
-use native.Mathlib.Numerals.{add-one}
 use native.Mathlib.Omega.{arith}
 use lib.Dec.{eqb}
 use lib.ListN.{length, get_or, take}
 use borrow.Author.Tests.{eqb-true, eq-eqb, ne_eqb}
+use Rattle.std.specs.Prelude.{MatchOption, Option, Some, None}
+use Rattle.std.specs.Option.{unwrap_or}
 use Rattle.chain.specs.Chain.{value, rest, shift, meeting, shift_from_top, value_at, words, with_last, without_trailing, trimmed, row}
 use Rattle.chain.specs.SumChain.{sum_at, sum_shift}
 use Rattle.chain.specs.ProductChain.{product_at, trimmed_product}
@@ -165,48 +166,52 @@ pub trimmed_twice : (unit : ℕ) (f : List ℕ) → trimmed unit (trimmed unit f
 unfolding trimmed
 trimmed_twice unit f = ap {B = List ℕ} (λ g. value unit f ∷ g) (twice_without_trailing unit (rest f))
 
--- ---- trailing units dropped, one after the other from the top
+-- ---- the length by the last element that is not the unit
 module _ (unit : ℕ) where
-  dropped : (g : List ℕ) (n : ℕ) → n < length g → get_or g n 0 ≡ unit → without_trailing unit (take (suc n) g) ≡ without_trailing unit (take n g)
+  all_dropped : (g : List ℕ) → ((k : ℕ) → k < length g → get_or g k 0 ≡ unit) → without_trailing unit g ≡ []
   unfolding without_trailing with_last
-  dropped [] n h e = absurd (not-suc-le-zero h)
-  dropped (a ∷ g) zero h e = ap {B = List ℕ} (λ b. cond b [] (a ∷ [])) (eq-eqb a unit e)
-  dropped (a ∷ g) (suc n) h e = ap (λ f. with_last unit a f) (dropped g n (le_of_suc-le-suc h) e)
+  all_dropped [] e = refl
+  all_dropped (a ∷ g) e =
+      ap (λ f. with_last unit a f) (all_dropped g (λ k h. e (suc k) (omega arith)))
+      ∙ ap {B = List ℕ} (λ b. cond b [] (a ∷ [])) (eq-eqb a unit (e 0 (omega arith)))
 
-  stopped : (g : List ℕ) (n : ℕ) → n < length g → (get_or g n 0 ≡ unit → ⊥) → without_trailing unit (take (suc n) g) ≡ take (suc n) g
+  longer : (a : ℕ) (f : List ℕ) (n : ℕ) → length f ≡ suc n → length (with_last unit a f) ≡ suc (suc n)
+  unfolding with_last
+  longer a [] n e = absurd (omega arith)
+  longer a (b ∷ f) n e = ap suc e
+
+  kept_to : (g : List ℕ) (last : ℕ) → last < length g → (get_or g last 0 ≡ unit → ⊥)
+      → ((k : ℕ) → last < k → k < length g → get_or g k 0 ≡ unit) → length (without_trailing unit g) ≡ suc last
   unfolding without_trailing with_last
-  stopped [] n h other = absurd (not-suc-le-zero h)
-  stopped (a ∷ g) zero h other = ap {B = List ℕ} (λ b. cond b [] (a ∷ [])) (ne_eqb a unit other)
-  stopped (a ∷ []) (suc n) h other = absurd (not-suc-le-zero (le_of_suc-le-suc h))
-  stopped (a ∷ b ∷ g) (suc n) h other = ap (λ f. with_last unit a f) (stopped (b ∷ g) n (le_of_suc-le-suc h) other)
+  kept_to [] last h other e = absurd (not-suc-le-zero h)
+  kept_to (a ∷ g) zero h other e =
+      ap (λ f. length (with_last unit a f)) (all_dropped g (λ k l. e (suc k) (omega arith) (omega arith)))
+      ∙ ap (λ b. length (cond b [] (a ∷ []))) (ne_eqb a unit other)
+  kept_to (a ∷ g) (suc last) h other e =
+      longer a (without_trailing unit g) last (kept_to g last (le_of_suc-le-suc h) other (λ k l m. e (suc k) (omega arith) (omega arith)))
 
-  pub trailing_dropped : (f : List ℕ) (last : ℕ) → 0 < last → last < length f → get_or f last 0 ≡ unit
-      → trimmed unit (take (last + 1) f) ≡ trimmed unit (take (last - 1 + 1) f)
+  pub trimmed_to : (f : List ℕ) (last : ℕ) → last < length f → (get_or f last 0 ≡ unit → ⊥)
+      → ((k : ℕ) → last < k → k < length f → get_or f k 0 ≡ unit) → length (trimmed unit f) ≡ suc last
   unfolding trimmed
-  trailing_dropped [] last some h e = absurd (not-suc-le-zero h)
-  trailing_dropped (a ∷ f) zero some h e = absurd (not-suc-le-zero some)
-  trailing_dropped (a ∷ f) (suc n) some h e =
-      ap (λ k. trimmed unit (take k (a ∷ f))) (add-one (suc n))
-      ∙ ap {B = List ℕ} (λ g. a ∷ g) (dropped f n (le_of_suc-le-suc h) e)
-      ∙ ap (λ k. trimmed unit (take k (a ∷ f))) again
-    where
-      again : suc n ≡ suc n - 1 + 1
-      again = omega arith
+  trimmed_to [] last h other e = absurd (not-suc-le-zero h)
+  trimmed_to (a ∷ f) zero h other e = ap (λ g. suc (length g)) (all_dropped f (λ k l. e (suc k) (omega arith) (omega arith)))
+  trimmed_to (a ∷ f) (suc last) h other e =
+      ap suc (kept_to f last (le_of_suc-le-suc h) other (λ k l m. e (suc k) (omega arith) (omega arith)))
 
-  pub trailing_stopped : (f : List ℕ) (last : ℕ) → 0 < last → last < length f → (get_or f last 0 ≡ unit → ⊥)
-      → trimmed unit (take (last + 1) f) ≡ take (last + 1) f
-  unfolding trimmed
-  trailing_stopped [] last some h other = absurd (not-suc-le-zero h)
-  trailing_stopped (a ∷ f) zero some h other = absurd (not-suc-le-zero some)
-  trailing_stopped (a ∷ f) (suc n) some h other =
-      ap (λ k. trimmed unit (take k (a ∷ f))) (add-one (suc n))
-      ∙ ap {B = List ℕ} (λ g. a ∷ g) (stopped f n (le_of_suc-le-suc h) other)
-      ∙ ap (λ k. take k (a ∷ f)) (sym (add-one (suc n)))
-
-  pub trailing_none : (f : List ℕ) → 0 < length f → trimmed unit (take 1 f) ≡ take 1 f
+  pub trimmed_to_one : (f : List ℕ) → ((k : ℕ) → k < length f → get_or f k 0 ≡ unit) → length (trimmed unit f) ≡ 1
   unfolding trimmed without_trailing
-  trailing_none [] h = absurd (not-suc-le-zero h)
-  trailing_none (a ∷ f) h = refl
+  trimmed_to_one [] e = refl
+  trimmed_to_one (a ∷ f) e = ap (λ g. suc (length g)) (all_dropped f (λ k l. e (suc k) (omega arith)))
+
+  -- What looking from the end of n elements finds: that all are the unit, or the last one that is not.
+  abbrev pub IsLastOther : ℕ → List ℕ → Option ℕ → Type 0
+  IsLastOther n f found =
+      MatchOption found ((k : ℕ) → k < n → get_or f k 0 ≡ unit)
+      (λ last. (last < n) × (get_or f last 0 ≡ unit → ⊥) × ((k : ℕ) → last < k → k < n → get_or f k 0 ≡ unit))
+
+  pub by_last_other : (n : ℕ) (f : List ℕ) (found : Option ℕ) → length f ≡ n → IsLastOther n f found → unwrap_or found 0 ≡ length (trimmed unit f) - 1
+  by_last_other n f None long all = omega (arith, trimmed_to_one f (λ k h. all k (omega arith)))
+  by_last_other n f (Some last) long is = omega (arith, trimmed_to f last (omega arith) is.1 (λ k h l. is.2 k h (omega arith)))
 
 -- ---- a shift keeps the trimmed length, from either end: the last element that is not 0 stays
 module _ (w : ℕ) where

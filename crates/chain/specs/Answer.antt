@@ -1,13 +1,35 @@
 -- The answers of the public calls, for all inputs: which refusal, or which trimmed chain.
 -- The width w is a parameter of every outcome; the calls have w = 64.
-use Rattle.std.specs.Prelude.{cond, List, [], ℕ, ◌+◌, ◌-◌, ltb, ℤ, pos, length, take}
-use Rattle.chain.specs.declared.ChainAnswer.{ChainAnswer}
-use Rattle.chain.specs.declared.ShiftAnswer.{ShiftAnswer}
-use Rattle.chain.specs.declared.ValueAnswer.{ValueAnswer}
+use Rattle.std.specs.Prelude.{cond, List, [], ℕ, ◌+◌, ◌-◌, ltb, ℤ, pos, length, take, Result, Ok, Err}
+use Rattle.chain.specs.declared.Chain.{Chain}
+use Rattle.chain.specs.declared.Shifted.{Shifted}
+use Rattle.chain.specs.declared.Refusal.{Refusal}
+use Rattle.chain.specs.declared.Refusal.TheVariants.{TooManyCoefficients, TooLong, ProductTooLong}
 use Rattle.chain.specs.Chain.{value, words, trimmed, row}
 use Rattle.chain.specs.SumChain as SumChain
 use Rattle.chain.specs.Coefficients.{from_coefficients}
 use Rattle.chain.specs.Crossing.{crossing}
+
+-- A refusal's number and place, 0 and 0 if accepted, and the trimmed chain: its length and its elements, 0 past them.
+pub record ChainAnswer : Type 0 where
+  pub number : ℕ
+  pub place : ℕ
+  pub length : ℕ
+  pub elements : List ℕ
+
+-- The same of a shift, and how its first element crossed: -1, 0 or 1, and 0 beside a refusal.
+pub record ShiftAnswer : Type 0 where
+  pub number : ℕ
+  pub place : ℕ
+  pub length : ℕ
+  pub elements : List ℕ
+  pub crossing : ℤ
+
+-- A refusal's number and place with the present value alone.
+pub record ValueAnswer : Type 0 where
+  pub number : ℕ
+  pub place : ℕ
+  pub word : ℕ
 
 -- What a call comes to: a refusal's number, or a trimmed sum chain.
 pub data Outcome : Type 0 where
@@ -65,3 +87,22 @@ coefficients_outcome w a = cond (ltb 17 (length a)) (refused 13) (chain (trimmed
 abbrev pub value_answer : List ℕ → ℕ → ValueAnswer
 value_answer f k =
     cond (ltb 16 k) (record { number = 14; place = 0; word = 0 }) (record { number = 0; place = 0; word = value 0 (given f k) })
+
+-- ---- what the results of the calls say in these words
+-- "13: over 17 coefficients"; "14: a chain given with length over 16"; "15: chain product, trimmed lengths add over 16".
+abbrev pub refusal_number : Refusal → ℕ
+refusal_number TooManyCoefficients = 13
+refusal_number TooLong = 14
+refusal_number ProductTooLong = 15
+
+abbrev pub as_chain_answer : Result Chain Refusal → ChainAnswer
+as_chain_answer (Ok f) = record { number = 0; place = 0; length = f.length; elements = f.elements }
+as_chain_answer (Err refusal) = answered (refused (refusal_number refusal))
+
+abbrev pub as_shift_answer : Result Shifted Refusal → ShiftAnswer
+as_shift_answer (Ok shifted) = with_crossing (as_chain_answer (Ok shifted.chain)) shifted.crossing
+as_shift_answer (Err refusal) = with_crossing (as_chain_answer (Err refusal)) (pos 0)
+
+abbrev pub as_value_answer : Result ℕ Refusal → ValueAnswer
+as_value_answer (Ok word) = record { number = 0; place = 0; word = word }
+as_value_answer (Err refusal) = record { number = refusal_number refusal; place = 0; word = 0 }

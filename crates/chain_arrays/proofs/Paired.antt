@@ -6,8 +6,7 @@ use Rattle.chain.specs.Chain.{joined, words, row}
 use Rattle.chain.specs.SumChain.{sum, difference}
 use Rattle.chain.specs.ProductChain.{joint_product, power_of_each, raised}
 use Rattle.chain.proofs.Rows.{row-whole}
-use Rattle.chain_arrays.specs.declared.Operation.TheVariants.{Sum, Difference, Product, Power}
-use Rattle.chain_arrays.specs.Operations.{paired, word_by_word}
+use Rattle.chain_arrays.specs.Operations.{Sum, Difference, Product, Power, paired, word_by_word}
 
 module _ (◌⊙◌ : ℕ → ℕ → ℕ) where
   pub entry_paired : (f g : List ℕ) (i : ℕ) → i < length f → i < length g → get_or (paired ◌⊙◌ f g) i 0 ≡ ◌⊙◌ (get_or f i 0) (get_or g i 0)

@@ -1,8 +1,13 @@
 -- The operations on two words, on two arrays word by word, and from word to word of a chain that is shifted. Chains and their rules are in `chain`.
 use Rattle.std.specs.Prelude.{ℕ, ◌+◌, ◌-◌, ◌*◌, ◌%◌, ◌^◌, List, [], ◌∷◌}
 use Rattle.chain.specs.Chain.{words, shift}
-use Rattle.chain_arrays.specs.declared.Operation.{Operation}
-use Rattle.chain_arrays.specs.declared.Operation.TheVariants.{Sum, Difference, Product, Power}
+
+-- The four operations.
+pub data Operation : Type 0 where
+  Sum : Operation
+  Difference : Operation
+  Product : Operation
+  Power : Operation
 
 -- What each operation makes of two words, before it is taken modulo 2^64.
 abbrev pub joining : Operation → ℕ → ℕ → ℕ

@@ -1,15 +1,16 @@
 // Chains as arrays of 17 words, and as lent slices that change in place: 0 past the elements, trimmed, and two of them word by word.
-// Lengths are checked by the callers in `chain_calls` and `chain_coefficients`; products and powers are in `chain_values`.
+// A chain that is given to a call is checked in `given`; products and powers are in `chain_values`, the calls in `chain_calls` and `chain_coefficients`.
 #![tactic(auto)]
 
-ghost use Rattle.std.specs.Prelude.{◌≡◌, ◌+◌, ◌-◌, ◌≤◌, [], length, take};
+ghost use Rattle.std.specs.Prelude.{◌≡◌, ◌+◌, ◌-◌, ◌<◌, ◌≤◌, [], length, take, MatchResult};
 ghost use Rattle.word.specs.Signed.{signed};
 ghost use Rattle.chain.specs.Chain.{shift_from_top, trimmed, row};
 ghost use Rattle.chain.specs.Crossing.{crossed_by};
-ghost use Rattle.chain.specs.Answer.{answered, refused, chain};
+ghost use Rattle.chain.specs.Answer.{answered, chain, as_chain_answer};
+ghost use Rattle.chain_arrays.specs.Operations as Operations;
 ghost use Rattle.chain_arrays.specs.Operations.{worked, word_by_word, shifted_by};
 
-use chain::ChainAnswer;
+use chain::{Chain, Refusal};
 
 // The longest chain.
 pub const LONGEST: usize = 16;
@@ -17,13 +18,52 @@ pub const LONGEST: usize = 16;
 // 2^63: the least word that reads as a negative number.
 const NEGATIVE: u64 = 9223372036854775808;
 
-// What is worked out of two words.
-#[derive(Clone, Copy)]
-pub enum Operation {
-    Sum,
-    Difference,
-    Product,
-    Power,
+// What is worked out of two words. `operation` says which of the four it is.
+pub trait Operation {
+    ghost operation: { Operations.Operation };
+
+    fn worked(a: u64, b: u64) -> u64
+        ensures { result ≡ worked operation a b };
+}
+
+pub struct Sum;
+
+impl Operation for Sum {
+    ghost operation = { Operations.Sum };
+
+    fn worked(a: u64, b: u64) -> u64 {
+        a.wrapping_add(b)
+    }
+}
+
+pub struct Difference;
+
+impl Operation for Difference {
+    ghost operation = { Operations.Difference };
+
+    fn worked(a: u64, b: u64) -> u64 {
+        a.wrapping_sub(b)
+    }
+}
+
+pub struct Product;
+
+impl Operation for Product {
+    ghost operation = { Operations.Product };
+
+    fn worked(a: u64, b: u64) -> u64 {
+        word::times(a, b)
+    }
+}
+
+pub struct Power;
+
+impl Operation for Power {
+    ghost operation = { Operations.Power };
+
+    fn worked(a: u64, b: u64) -> u64 {
+        word::power(a, b)
+    }
 }
 
 // The constant 0.
@@ -39,63 +79,46 @@ pub fn kept(f: [u64; 17], last: usize) -> [u64; 17]
     ensures { result ≡ row 17 (take (last + 1) f) }
 {
     let mut r = zeros();
-    let mut i = 0;
-    while i <= last {
-        r[i] = f[i];
-        i += 1;
-    }
+    r[..=last].copy_from_slice(&f[..=last]);
     r
 }
 
-// The index of the last word that is not the unit, or 0.
-pub fn trimmed_length(f: [u64; 17], unit: u64) -> usize
-    ensures { result ≡ length (trimmed unit f) - 1 }
+// The words of a chain that is given to a call: up to its length, 0 past it. A length over 16 is refused.
+pub fn given(f: Chain) -> Result<[u64; 17], Refusal>
+    ensures { MatchResult result
+        (λ words. (f.length ≤ 16) × (words ≡ row 17 (take (f.length + 1) f.elements)))
+        (λ refusal. (16 < f.length) × (refusal ≡ Refusal.TooLong)) }
 {
-    let mut last = 16;
-    while 0 < last {
-        if f[last] != unit {
-            return last;
-        }
-        last -= 1;
+    if LONGEST < f.length {
+        return Err(Refusal::TooLong);
     }
-    0
+    Ok(kept(f.elements, f.length))
 }
 
-// By the supplied wrapping sum and difference, and `word`'s product and power.
-pub fn worked(operation: Operation, a: u64, b: u64) -> u64
-    ensures { result ≡ worked operation a b }
+// The index of the last word that is not the unit, or 0.
+pub fn trimmed_length(f: &[u64], unit: u64) -> usize
+    ensures { result ≡ length (trimmed unit f.now) - 1 }
 {
-    match operation {
-        Operation::Sum => std::num::wrapping_add_u64(a, b),
-        Operation::Difference => std::num::wrapping_sub_u64(a, b),
-        Operation::Product => word::times(a, b),
-        Operation::Power => word::power(a, b),
-    }
+    f.iter().rposition(|a| *a != unit).unwrap_or(0)
 }
 
 // Two arrays, word by word.
-pub fn word_by_word(operation: Operation, f: [u64; 17], g: [u64; 17]) -> [u64; 17]
-    ensures { result ≡ word_by_word operation f g }
+pub fn word_by_word<O: Operation>(f: [u64; 17], g: [u64; 17]) -> [u64; 17]
+    ensures { result ≡ word_by_word O.operation f g }
 {
     let mut r = zeros();
-    let mut i = 0;
-    while i < 17 {
-        r[i] = worked(operation, f[i], g[i]);
-        i += 1;
+    for i in 0..17 {
+        r[i] = O::worked(f[i], g[i]);
     }
     r
 }
 
 // One shift in place, from the bottom up: each word meets its neighbour's old value.
-pub fn shift_part(operation: Operation, f: &mut [u64])
-    ensures { f.new ≡ shifted_by operation f.old }
+pub fn shift_part<O: Operation>(f: &mut [u64])
+    ensures { f.new ≡ shifted_by O.operation f.old }
 {
-    let len = f.len();
-    let mut left = len;
-    while 1 < left {
-        let at = len - left;
-        f[at] = worked(operation, f[at], f[at + 1]);
-        left -= 1;
+    for i in 1..f.len() {
+        f[i - 1] = O::worked(f[i - 1], f[i]);
     }
 }
 
@@ -117,14 +140,11 @@ pub fn crossed(a: u64, b: u64) -> i64
 }
 
 // One shift in place, from the top down: each word meets its neighbour's new value.
-pub fn shift_from_top(operation: Operation, f: &mut [u64])
-    ensures { f.new ≡ shift_from_top (worked operation) f.old }
+pub fn shift_from_top<O: Operation>(f: &mut [u64])
+    ensures { f.new ≡ shift_from_top (worked O.operation) f.old }
 {
-    let mut left = f.len();
-    while 1 < left {
-        let at = left - 2;
-        f[at] = worked(operation, f[at], f[at + 1]);
-        left -= 1;
+    for i in (1..f.len()).rev() {
+        f[i - 1] = O::worked(f[i - 1], f[i]);
     }
 }
 
@@ -133,33 +153,15 @@ pub fn lay(f: [u64; 17], part: &mut [u64])
     requires { length part.old ≡ 17 }
     ensures { part.new ≡ f }
 {
-    let mut j = 0;
-    while j < 17 {
-        part[j] = f[j];
-        j += 1;
-    }
-}
-
-// A refusal with the constant 0.
-pub fn refusal(number: u64) -> ChainAnswer
-    ensures { result ≡ answered (refused number) }
-{
-    ChainAnswer {
-        number,
-        place: 0,
-        length: 0,
-        elements: zeros(),
-    }
+    part.copy_from_slice(&f);
 }
 
 // The chain of all 17 words, trimmed.
-pub fn accepted(elements: [u64; 17]) -> ChainAnswer
-    ensures { result ≡ answered (chain (trimmed 0 elements)) }
+pub fn accepted(elements: [u64; 17]) -> Chain
+    ensures { as_chain_answer (Ok result) ≡ answered (chain (trimmed 0 elements)) }
 {
-    ChainAnswer {
-        number: 0,
-        place: 0,
-        length: trimmed_length(elements, 0),
+    Chain {
+        length: trimmed_length(&elements, 0),
         elements,
     }
 }

@@ -6,13 +6,12 @@ use lib.ListN.{length-map}
 use Rattle.word.specs.Word as Word
 use Rattle.word.proofs.Modulo.{outward, mul_same}
 use Rattle.word.proofs.Ring as Ring
-use Rattle.chain.specs.declared.ChainAnswer.{ChainAnswer}
 use Rattle.chain.specs.Chain.{rest, words, shifted, value_at, with_last, without_trailing, trimmed, row}
 use Rattle.chain.specs.SumChain.{sum_at}
 use Rattle.chain.specs.SumChain as SumChain
 use Rattle.chain.specs.BackwardChain.{inverse_shift}
 use Rattle.chain.specs.BackwardChain as BackwardChain
-use Rattle.chain.specs.Answer.{Outcome, refused, chain, answered, given, unless_over, product_outcome}
+use Rattle.chain.specs.Answer.{ChainAnswer, Outcome, refused, chain, answered, given, unless_over, product_outcome}
 use Rattle.chain.specs.BackwardAnswer.{backward_product_outcome}
 use Rattle.chain.proofs.Rows.{entry_words}
 use Rattle.chain.proofs.Trimming.{length-trimmed_some}
@@ -187,12 +186,17 @@ module _ (w : ℕ) where
   abbrev flip : List ℕ → List ℕ
   flip f = words w (alternated w f)
 
+  -- The words of no elements stay.
+  pub none_flipped : row 17 [] ≡ flip (row 17 [])
+  unfolding alternated_from
+  none_flipped = sym (row_from w 17 1 [])
+
   flipped : Outcome → ChainAnswer
   flipped o = record { number = (answered o).number; place = (answered o).place; length = (answered o).length; elements = flip (answered o).elements }
 
   flipped_refused : (n : ℕ) → flipped (refused n) ≡ answered (refused n)
-  unfolding flipped alternated_from
-  flipped_refused n = ap (λ e. record { number = n; place = 0; length = 0; elements = e }) (row_from w 17 1 [])
+  unfolding flipped
+  flipped_refused n = ap (λ e. record { number = n; place = 0; length = 0; elements = e }) (sym none_flipped)
 
   flipped_chain : (f : List ℕ) → words w f ≡ f → flipped (chain (flip f)) ≡ answered (chain f)
   unfolding flipped

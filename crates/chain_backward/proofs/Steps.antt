@@ -4,18 +4,17 @@ use native.Mathlib.Nat.{mod-mod}
 use Rattle.word.specs.Word as Word
 use Rattle.word.proofs.Modulo.{outward}
 use Rattle.word.proofs.Ring as Ring
-use Rattle.chain.specs.declared.ChainAnswer.{ChainAnswer}
 use Rattle.chain.specs.Chain.{shift, shift_from_top, words, trimmed, row}
 use Rattle.chain.specs.BackwardChain.{converted}
 use Rattle.chain.specs.BackwardChain as BackwardChain
-use Rattle.chain.specs.Answer.{answered, refused, chain, given, unless_long}
+use Rattle.chain.specs.Answer.{ChainAnswer, answered, refused, chain, given, unless_long}
 use Rattle.chain.specs.BackwardAnswer.{changed, inverse_shift_outcome, backward_shift_outcome, backward_inverse_shift_outcome, to_backward_outcome, to_forward_outcome}
 use Rattle.chain.proofs.Rows.{words-whole}
 use Rattle.chain.proofs.Shifting.{length_shift, length-from_top, words-shift, words-from_top}
 use Rattle.chain.proofs.Backward.{forward_inverse_words, backward_words}
 use Rattle.chain.proofs.Conversions.{length-converted, word-sum_of_words, to_forward_words}
 use Rattle.chain.proofs.BackwardCalls.{top_pads, bottom_pads, converted_pads, given-words, changed_trims}
-use Rattle.chain_arrays.specs.declared.Operation.TheVariants.{Difference}
+use Rattle.chain_arrays.specs.Operations.{Difference}
 use Rattle.chain_arrays.specs.Operations.{joining, shifted_by}
 
 difference-zero : (w a : ℕ) → Word.difference w (a % 2 ^ w) 0 ≡ a % 2 ^ w

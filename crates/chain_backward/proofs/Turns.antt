@@ -1,5 +1,5 @@
 -- Conversion turn by turn: after j turns j words are those of the converted chain, and the rest is a chain still to be converted.
-use Rattle.std.proofs.Common.{◌≡◌, ℕ, zero, suc, ◌+◌, ◌-◌, ◌≤◌, List, [], ◌∷◌, ◌++◌, length, take, drop, sym, refl, ap, ◌∙◌, ap₂, append-nil, le_of_suc-le-suc, not-suc-le-zero, add-one, arith, length-drop, drop_of_length-le, take_all}
+use Rattle.std.proofs.Common.{◌≡◌, ℕ, zero, suc, ◌-◌, ◌<◌, ◌≤◌, List, [], ◌∷◌, ◌++◌, length, take, drop, sym, refl, ap, ◌∙◌, ap₂, append-nil, le_of_suc-le-suc, not-suc-le-zero, arith, length-drop, drop_of_length-le, take_all}
 use Rattle.chain.specs.Chain.{shift_from_top}
 use Rattle.chain.specs.BackwardChain.{converted}
 use Rattle.chain.proofs.Shifting.{length-from_top}
@@ -39,18 +39,19 @@ module _ (◌⊙◌ : ℕ → ℕ → ℕ) where
   turn (suc j) [] = refl
   turn (suc j) (a ∷ f) = ap {B = List ℕ} (λ g. a ∷ g) (turn j (shift_from_top ◌⊙◌ f))
 
-  -- One turn over the words behind the j-th, as they are lent and put back.
-  pub underway_turn : (j : ℕ) (f : List ℕ) {r part : List ℕ} → length f ≡ 17 → r ≡ underway j f
-      → part ≡ shift_from_top ◌⊙◌ (take (17 - (j + 1)) (drop (j + 1) r))
-      → take (j + 1) r ++ (part ++ drop (17 - (j + 1)) (drop (j + 1) r)) ≡ underway (j + 1) f
-  underway_turn j f {r} {part} long e q =
-      ap (λ l. take (j + 1) r ++ l)
-      (ap₂ ◌++◌ (q ∙ ap (λ l. shift_from_top ◌⊙◌ l) (take_all (17 - (j + 1)) (drop (j + 1) r) short)) (drop_of_length-le (drop (j + 1) r) {i = 17 - (j + 1)} short)
-      ∙ append-nil (shift_from_top ◌⊙◌ (drop (j + 1) r)))
-      ∙ ap (λ l. take (j + 1) l ++ shift_from_top ◌⊙◌ (drop (j + 1) l)) e
-      ∙ ap (λ n. take n (underway j f) ++ shift_from_top ◌⊙◌ (drop n (underway j f))) (add-one j)
+  -- One turn over the words from the j-th on, as they are lent and put back.
+  pub underway_turn : (j : ℕ) (f : List ℕ) {r part : List ℕ} → 0 < j → length f ≡ 17 → r ≡ underway (j - 1) f
+      → part ≡ shift_from_top ◌⊙◌ (take (17 - j) (drop j r)) → take j r ++ (part ++ drop (17 - j) (drop j r)) ≡ underway j f
+  underway_turn zero f some long e q = absurd (not-suc-le-zero some)
+  underway_turn (suc j) f {r} {part} some long e q =
+      ap (λ l. take (suc j) r ++ l)
+      (ap₂ ◌++◌ (q ∙ ap (λ l. shift_from_top ◌⊙◌ l) (take_all (17 - suc j) (drop (suc j) r) short)) (drop_of_length-le (drop (suc j) r) {i = 17 - suc j} short)
+      ∙ append-nil (shift_from_top ◌⊙◌ (drop (suc j) r)))
+      ∙ ap (λ l. take (suc j) l ++ shift_from_top ◌⊙◌ (drop (suc j) l)) before
       ∙ turn j f
-      ∙ ap (λ n. underway n f) (sym (add-one j))
     where
-      short : length (drop (j + 1) r) ≤ 17 - (j + 1)
-      short = omega (arith, length-drop (j + 1) r, ap length e, length_underway j f)
+      before : r ≡ underway j f
+      before = e ∙ ap (λ n. underway n f) (omega arith)
+
+      short : length (drop (suc j) r) ≤ 17 - suc j
+      short = omega (arith, length-drop (suc j) r, ap length before, length_underway j f)

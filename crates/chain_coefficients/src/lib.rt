@@ -5,12 +5,13 @@
 ghost use Rattle.std.specs.Prelude.{◌≡◌, ◌%◌, ◌^◌, ◌<◌, length};
 ghost use Rattle.chain.specs.Chain.{row, words};
 ghost use Rattle.chain.specs.Coefficients.{onto, element_from, from_coefficients};
-ghost use Rattle.chain.specs.Answer.{answered, coefficients_outcome};
+ghost use Rattle.chain.specs.Answer.{as_chain_answer, answered, coefficients_outcome};
 
-use chain::ChainAnswer;
-use chain_arrays::{accepted, refusal};
+use chain::{Chain, Refusal};
+use chain_arrays::accepted;
 
 // Entry 17 * j + m is m! * S(j, m), j and m from 0 to 16: how many ways there are to map j things onto m.
+// Kept: 01 asks for the numbers in "a table of 289 numbers".
 const ONTO: [u64; 289] = [
     1,
     0,
@@ -317,11 +318,9 @@ fn element(a: &[u64], m: usize) -> u64
     requires m_bound { m < 17 }
     ensures { result ≡ element_from 0 a.now m % 2 ^ 64 }
 {
-    let mut total = 0;
-    let mut j = 0;
-    while j < a.len() {
-        total = std::num::wrapping_add_u64(total, word::times(a[j], onto(j, m)));
-        j += 1;
+    let mut total: u64 = 0;
+    for (j, coefficient) in a.iter().enumerate() {
+        total = total.wrapping_add(word::times(*coefficient, onto(j, m)));
     }
     total
 }
@@ -332,20 +331,18 @@ fn elements(a: &[u64]) -> [u64; 17]
     ensures { result ≡ row 17 (words 64 (from_coefficients a.now)) }
 {
     let mut r = chain_arrays::zeros();
-    let mut m = 0;
-    while m < 17 {
+    for m in 0..17 {
         r[m] = element(a, m);
-        m += 1;
     }
     r
 }
 
-// The trimmed chain of the polynomial a0 + a1 * i + .. in the index i. Over 17 coefficients are refused 13.
-pub fn from_coefficients(a: &[u64]) -> ChainAnswer
-    ensures { result ≡ answered (coefficients_outcome 64 a.now) }
+// The trimmed chain of the polynomial a0 + a1 * i + .. in the index i. Over 17 coefficients are refused.
+pub fn from_coefficients(a: &[u64]) -> Result<Chain, Refusal>
+    ensures { as_chain_answer result ≡ answered (coefficients_outcome 64 a.now) }
 {
     if 17 < a.len() {
-        return refusal(13);
+        return Err(Refusal::TooManyCoefficients);
     }
-    accepted(elements(a))
+    Ok(accepted(elements(a)))
 }

@@ -17,8 +17,7 @@ use Rattle.chain.specs.SumChain.{sum_at, sum_shift, product, power}
 use Rattle.chain.proofs.Rows.{entry_value, row-whole, words-whole}
 use Rattle.chain.proofs.SumLaws.{sum-now, sum-next, sum-shift, value-words, value-product, value-power}
 use Rattle.chain.proofs.Canonical.{value_row, same_row}
-use Rattle.chain_arrays.specs.declared.Operation.TheVariants.{Product}
-use Rattle.chain_arrays.specs.Operations.{worked, word_by_word}
+use Rattle.chain_arrays.specs.Operations.{Product, worked, word_by_word}
 use Rattle.chain_arrays.proofs.Paired.{entry_paired, length-paired}
 use Rattle.chain_values.specs.Passes.{behind, passes}
 use Rattle.chain_values.proofs.Passing.{length-behind, length-passes, entry_behind}

@@ -64,18 +64,18 @@ module _ (◌⊙◌ : ℕ → ℕ → ℕ) where
   meets i [] h = absurd (not-suc-le-zero h)
   meets i (a ∷ f) h = meet i a f (le_of_suc-le-suc h)
 
-  -- One replacement: a word meets its lower neighbour's old value.
-  pub meet_turn : (i : ℕ) (f : List ℕ) {r : List ℕ} {v : ℕ} → i + 1 < length f → r ≡ meeting (i + 2) f
-      → v ≡ ◌⊙◌ (get_or r (i + 1) 0) (get_or r i 0) → set r (i + 1) v ≡ meeting (i + 1) f
-  meet_turn i f {r} h e q =
-      ap (λ x. set r (i + 1) x) q
-      ∙ ap (λ n. set r n (◌⊙◌ (get_or r n 0) (get_or r i 0))) (add-one i)
-      ∙ ap (λ l. set l (suc i) (◌⊙◌ (get_or l (suc i) 0) (get_or l i 0))) (e ∙ ap (λ n. meeting n f) two)
-      ∙ meets i f (omega arith)
-      ∙ ap (λ n. meeting n f) (sym (add-one i))
+  -- One replacement: a word meets its lower neighbour's old value; i is its place.
+  pub meet_turn : (below : ℕ) (f : List ℕ) {i : ℕ} {r : List ℕ} {v : ℕ} → i ≡ below + 1 → i < length f → r ≡ meeting (i + 1) f
+      → v ≡ ◌⊙◌ (get_or r i 0) (get_or r below 0) → set r i v ≡ meeting i f
+  meet_turn below f {i} {r} above h e q =
+      ap (λ x. set r i x) q
+      ∙ ap (λ n. set r n (◌⊙◌ (get_or r n 0) (get_or r below 0))) next
+      ∙ ap (λ l. set l (suc below) (◌⊙◌ (get_or l (suc below) 0) (get_or l below 0))) (e ∙ ap (λ n. meeting n f) (omega arith))
+      ∙ meets below f (omega arith)
+      ∙ ap (λ n. meeting n f) (sym next)
     where
-      two : i + 2 ≡ suc (suc i)
-      two = omega arith
+      next : i ≡ suc below
+      next = omega arith
 
   -- ---- pass after pass
   pub passes_none : (f : List ℕ) → f ≡ passes ◌⊙◌ 0 f

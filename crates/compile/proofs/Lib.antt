@@ -6,3 +6,4 @@ pub mod Pairs
 pub mod Nodes
 pub mod Turns
 pub mod Assembled
+pub mod NodeKinds

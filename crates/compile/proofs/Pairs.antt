@@ -5,7 +5,7 @@ use mathlib.Core.List.{List, [], ◌∷◌, ◌++◌}
 use Prim.Native.Nat.{ℕ}
 use lib.Dec.{eqb}
 use lib.ListN.{set}
-use Rattle.chain.specs.declared.ChainAnswer.{ChainAnswer}
+use Rattle.chain.specs.Answer.{ChainAnswer}
 use Rattle.chain.specs.Chain.{trimmed, row}
 use Rattle.chain.specs.Answer.{answered, trim_outcome}
 use Rattle.chain.proofs.Trimming.{length-trimmed_some}

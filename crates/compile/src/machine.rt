@@ -6,14 +6,18 @@ ghost use Rattle.fold.specs.Folded.{trimmed_sum};
 ghost use Rattle.fold_rows.specs.Standing.{placed, no_span};
 ghost use Rattle.fold_operands.specs.Operands.{Two, FoldsBoth};
 ghost use Rattle.compile.specs.Machine.{fold_both, Ends, FirstRow, AtNode, FoldsNode, AtPlace, FoldsPlace, Compilable, Written, FoldedAt};
+ghost use Rattle.formula.specs.Words.{kind_number};
 ghost use Rattle.formula.specs.Tree.{Tree, span_of};
 ghost use Rattle.fold.specs.Folding.{fold};
 ghost use Rattle.fold.specs.Layout.{plan_words};
 
-use formula::{NUMBER, VARIABLE};
+use chain::Chain;
+use fold_operands::{Pair, put_sum};
+use fold_sums::{Additive, fold_sum};
+use formula::NodeKind;
 use formula_read::SPANNED_TREE_WORDS;
-use plan::PLAN_WORDS;
-use plan_rows::kinds::{DIFFERENCE, LITERAL_POWER, MINUS, PRODUCT_CHAIN, SUM, SUM_CHAIN};
+use plan::{PLAN_WORDS, PlanWords};
+use plan_rows::kinds::PRODUCT_CHAIN;
 use plan_rows::word;
 
 // The tree stands in the last of the plan's own words, its nodes behind the node count.
@@ -21,43 +25,53 @@ pub const TREE_START: usize = PLAN_WORDS - SPANNED_TREE_WORDS;
 
 const NODES_START: usize = TREE_START + 1;
 
+// The words of a node: kind and word, and the first byte and end byte of its text.
+const NODE_WORDS: usize = 4;
+
+// The grid that a formula is compiled on: x is `start` at index 0, and grows by `step`.
+#[derive(Clone, Copy)]
+pub struct Grid {
+    pub start: u64,
+    pub step: u64,
+}
+
 // The chain of two elements, trimmed, in row r: a number and 0, or x.
-fn put_pair(plan: &mut [u64], r: usize, first: u64, second: u64)
-    requires plan_length_in_bounds { plan_length ≤ length plan.old }
-    requires r_lt_most_rows { r < most_rows }
+fn put_pair(plan: &mut PlanWords, r: usize, first: u64, second: u64)
+    requires { r < most_rows }
     ensures { plan.new ≡ placed plan.old r no_span (trimmed_sum (first ∷ second ∷ [])) }
 {
-    let mut f = chain_arrays::zeros();
-    f[0] = first;
-    f[1] = second;
-    let t = chain_calls::trim(f, 1);
-    let elements = t.elements;
-    fold_rows::put_chain(plan, r, SUM_CHAIN, t.length, elements);
+    let mut elements = chain_arrays::zeros();
+    elements[0] = first;
+    elements[1] = second;
+    let trimmed = chain_calls::trim(Chain {
+        length: 1,
+        elements,
+    });
+    put_sum(plan, r, trimmed.unwrap());
 }
 
 // The operator of two operands: + - * or a raise.
-fn fold_both(plan: &mut [u64], kind: u64, left: usize, middle: usize, end: usize) -> usize
-    requires plan_length_in_bounds { plan_length ≤ length plan.old }
-    requires end_lt_most_rows { end < most_rows }
-    requires two { Two plan.old left middle end }
-    ensures { FoldsBoth (fold_both kind) plan.old left middle end result plan.new }
+fn fold_both(plan: &mut PlanWords, kind: NodeKind, pair: Pair) -> usize
+    requires end_lt_most_rows { pair.end < most_rows }
+    requires two { Two plan.old pair.left pair.middle pair.end }
+    ensures { FoldsBoth (fold_both (kind_number kind)) plan.old pair.left pair.middle pair.end result plan.new }
 {
     match kind {
-        3 => fold_sums::fold_sum(plan, SUM, left, middle, end),
-        4 => fold_sums::fold_sum(plan, DIFFERENCE, left, middle, end),
-        5 => fold_products::fold_product(plan, left, middle, end),
-        _ => fold_raises::fold_raise(plan, left, middle, end),
+        NodeKind::Sum => fold_sum(plan, Additive::Sum, pair),
+        NodeKind::Difference => fold_sum(plan, Additive::Difference, pair),
+        NodeKind::Product => fold_products::fold_product(plan, pair),
+        _ => fold_raises::fold_raise(plan, pair),
     }
 }
 
 // The first row of the operand that ends before row `end`: from its root down the left operands.
-fn first_row(plan: &[u64], end: usize) -> usize
-    requires plan_length_in_bounds { plan_length ≤ length plan.now }
+fn first_row(plan: &PlanWords, end: usize) -> usize
     requires end_le_most_rows { end ≤ most_rows }
     requires ends { Ends plan.now end }
     ensures { FirstRow plan.now end result }
 {
     let mut r = end - 1;
+    // Kept: each row is named by the one before it alone, so that no range and no iterator of the plan's own has them.
     while PRODUCT_CHAIN < word(plan, r, 0) {
         r = word(plan, r, 1) as usize;
     }
@@ -65,73 +79,72 @@ fn first_row(plan: &[u64], end: usize) -> usize
 }
 
 // One node: a number, x, or an operator on the operands that were finished last, its span left out. Answers the row behind the last operand.
-fn fold_node(plan: &mut [u64], end: usize, kind: u64, word: u64, start: u64, step: u64) -> usize
-    requires plan_length_in_bounds { plan_length ≤ length plan.old }
-    requires at_node { AtNode start step plan.old end kind word }
-    ensures { FoldsNode start step plan.old end kind word plan.new result }
+fn fold_node(plan: &mut PlanWords, end: usize, kind: NodeKind, word: u64, grid: Grid) -> usize
+    requires { AtNode grid.start grid.step plan.old end (kind_number kind) word }
+    ensures { FoldsNode grid.start grid.step plan.old end (kind_number kind) word plan.new result }
 {
-    if kind == NUMBER {
-        put_pair(plan, end, word, 0);
-        return end + 1;
+    match kind {
+        NodeKind::Number => {
+            put_pair(plan, end, word, 0);
+            end + 1
+        }
+        NodeKind::Variable => {
+            put_pair(plan, end, grid.start, grid.step);
+            end + 1
+        }
+        NodeKind::Minus => {
+            let first = first_row(plan, end);
+            fold_minus::fold_minus(plan, first, end)
+        }
+        NodeKind::LiteralPower => {
+            let base = first_row(plan, end);
+            fold_powers::fold_power(plan, base, end, word)
+        }
+        _ => {
+            let middle = first_row(plan, end);
+            let left = first_row(plan, middle);
+            fold_both(plan, kind, Pair { left, middle, end })
+        }
     }
-    if kind == VARIABLE {
-        put_pair(plan, end, start, step);
-        return end + 1;
-    }
-    let top = first_row(plan, end);
-    if kind == MINUS {
-        return fold_minus::fold_minus(plan, top, end);
-    }
-    if kind == LITERAL_POWER {
-        return fold_powers::fold_power(plan, top, end, word);
-    }
-    let below = first_row(plan, top);
-    fold_both(plan, kind, below, top, end)
 }
 
 // The node whose four words stand from `at` on: its root row, also that of an operand which it passes through, gets its whole span.
-fn fold_place(plan: &mut [u64], at: usize, end: usize, start: u64, step: u64) -> usize
-    requires plan_length_in_bounds { plan_length ≤ length plan.old }
+fn fold_place(plan: &mut PlanWords, at: usize, end: usize, grid: Grid) -> usize
     requires at_bound { at + 3 < plan_length }
-    requires at_place { AtPlace start step plan.old end at }
-    ensures { FoldsPlace start step plan.old end at plan.new result }
+    requires at_place { AtPlace grid.start grid.step plan.old end at }
+    ensures { FoldsPlace grid.start grid.step plan.old end at plan.new result }
 {
-    let kind = plan[at];
+    let kind = NodeKind::try_from(plan[at]).unwrap();
     let word = plan[at + 1];
     let first_byte = plan[at + 2];
     let end_byte = plan[at + 3];
-    let behind = fold_node(plan, end, kind, word, start, step);
+    let behind = fold_node(plan, end, kind, word, grid);
     let root = behind - 1;
     fold_rows::put_span(plan, root, first_byte, end_byte);
     behind
 }
 
 // All nodes of the tree whose words stand at the end of the plan. Answers the row behind the folded tree.
-fn fold_nodes(plan: &mut [u64], start: u64, step: u64) -> usize
-    requires plan_length_in_bounds { plan_length ≤ length plan.old }
-    requires compilable { (t : Tree) × Compilable start step t × Written plan.old t }
-    ensures { (t : Tree) → Compilable start step t → Written plan.old t → FoldedAt start step plan.old t plan.new result }
+fn fold_nodes(plan: &mut PlanWords, grid: Grid) -> usize
+    requires { (t : Tree) × Compilable grid.start grid.step t × Written plan.old t }
+    ensures { (t : Tree) → Compilable grid.start grid.step t → Written plan.old t → FoldedAt grid.start grid.step plan.old t plan.new result }
 {
     let count = plan[TREE_START] as usize;
     let mut end = 0;
-    let mut n = 0;
-    while n < count {
-        let at = NODES_START + 4 * n;
-        end = fold_place(plan, at, end, start, step);
-        n += 1;
+    for n in 0..count {
+        end = fold_place(plan, NODES_START + NODE_WORDS * n, end, grid);
     }
     end
 }
 
 // The plan of the folded tree, in all of the plan's own words.
-pub fn fold_tree(plan: &mut [u64], start: u64, step: u64)
-    requires plan_length_in_bounds { plan_length ≤ length plan.old }
-    requires compilable { (t : Tree) × Compilable start step t × Written plan.old t }
-    ensures { (t : Tree) → Compilable start step t → Written plan.old t
-        → plan.new ≡ plan_words (span_of t) (fold 64 start step t) ++ drop plan_length plan.old }
+pub fn fold_tree(plan: &mut PlanWords, grid: Grid)
+    requires { (t : Tree) × Compilable grid.start grid.step t × Written plan.old t }
+    ensures { (t : Tree) → Compilable grid.start grid.step t → Written plan.old t
+        → plan.new ≡ plan_words (span_of t) (fold 64 grid.start grid.step t) }
 {
-    let rows = fold_nodes(plan, start, step);
+    let rows = fold_nodes(plan, grid);
     plan[0] = rows as u64;
     let behind = plan_rows::start(rows);
-    word::clear(&mut plan[behind..PLAN_WORDS]);
+    plan[behind..].fill(0);
 }

@@ -14,7 +14,7 @@ use Rattle.formula.specs.Words.{most_nodes}
 use Rattle.plan.specs.Measures.{plan_length, row_length, most_rows, row_start}
 use Rattle.word.specs.Word as Word
 use Rattle.word.proofs.Modulo.{mod-mul-mod, mul-mod-mod}
-use Rattle.formula.specs.declared.ReadAnswer.{ReadAnswer}
+use Rattle.formula.specs.Answer.{ReadAnswer}
 use Rattle.formula.specs.Tree.{Span, first, end, Tree, span_of, number, literal_power, nodes}
 use Rattle.formula.specs.Grammar.{Formula}
 use Rattle.formula.specs.Value.{direct_value}
@@ -47,7 +47,7 @@ use Rattle.fold.proofs.Origins.{root_first, root_end, rows_come}
 use Rattle.fold.proofs.RowMeaning.{plan_root}
 use Rattle.fold.proofs.Compiled as Compiled
 use Rattle.fold.specs.OneChain.{OneSum, SameChain}
-use Rattle.fold.specs.declared.CompileAnswer.{CompileAnswer}
+use Rattle.fold.specs.Answer.{CompileAnswer}
 use Rattle.fold.specs.Compiling.{Compiling, too_short, refused, accepted}
 use Rattle.plan.specs.Row.{kind, first_byte, end_byte, between, all_zero}
 use Rattle.plan.specs.Plan as Plan
@@ -61,7 +61,7 @@ use Rattle.plan.proofs.Keeping.{cost-after, refusal-after}
 use Rattle.plan.proofs.Accepting.{fill-accepted, refused_alters_nothing}
 use Rattle.plan.proofs.Sharing.{after-add, length-points, point_at, shared}
 use Rattle.plan.specs.Calls.{Call, written, plan_left, points_of}
-use Rattle.reason.specs.declared.ReasonAnswer.{ReasonAnswer}
+use Rattle.reason.specs.Answer.{ReasonAnswer}
 use Rattle.reason.specs.RowTrees.{row_tree}
 use Rattle.reason.specs.Reasons.{Stays, Reason}
 use Rattle.reason.specs.Explaining.{refusing, explaining, Explaining, not-counted, no_operator, operator}

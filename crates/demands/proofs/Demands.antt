@@ -19,16 +19,14 @@ use Rattle.word.specs.Signed as Signed
 use Rattle.word.specs.Signed.{half, signed}
 use Rattle.word.proofs.Unique as WordPromises
 use Rattle.word.proofs.Unique.{both_are}
-use Rattle.formula.specs.declared.ReadAnswer.{ReadAnswer}
+use Rattle.formula.specs.Answer.{ReadAnswer}
 use Rattle.formula.specs.Tree.{first, end, Tree, span_of}
 use Rattle.formula.specs.Grammar.{Formula}
 use Rattle.formula.specs.Value.{direct_value}
 use Rattle.formula.specs.Refusals.{count, TooDeep, StopsAt, Part, Fault, too_long, too_deep, not-grammar, Refused, Accepted, Reading}
 use Rattle.formula_scan.proofs.Answers.{accepted_fits, accepted_base, reading_unique}
 use Rattle.formula_scan.proofs.GrammarScan.{unambiguous, decided}
-use Rattle.chain.specs.declared.ChainAnswer.{ChainAnswer}
-use Rattle.chain.specs.declared.ShiftAnswer.{ShiftAnswer}
-use Rattle.chain.specs.declared.ValueAnswer.{ValueAnswer}
+use Rattle.chain.specs.Answer.{ChainAnswer, ShiftAnswer, ValueAnswer}
 use Rattle.chain.specs.Chain as Chain
 use Rattle.chain.specs.SumChain.{sum_at}
 use Rattle.chain.specs.SumChain as SumChain
@@ -48,10 +46,7 @@ use Rattle.chain.proofs.SumLaws as SumLaws
 use Rattle.chain.proofs.ProductLaws.{value-product-words}
 use Rattle.chain.proofs.Promises as ChainPromises
 use Rattle.chain.proofs.CrossingLaws as Crossing
-use Rattle.plan.specs.declared.FillAnswer.{FillAnswer}
-use Rattle.plan.specs.declared.FillErasAnswer.{FillErasAnswer}
-use Rattle.plan.specs.declared.CostAnswer.{CostAnswer}
-use Rattle.plan.specs.declared.SoundAnswer.{SoundAnswer}
+use Rattle.plan.specs.Answers.{FillAnswer, FillErasAnswer, CostAnswer, SoundAnswer}
 use Rattle.plan.specs.Plan as Plan
 use Rattle.plan.specs.Row.{Row, kind, word_a, word_b, first_element, first_byte, end_byte}
 use Rattle.plan.specs.Points.{root_value}
@@ -69,11 +64,11 @@ use Rattle.fold.specs.Layout.{plan_words}
 use Rattle.fold.proofs.Compiled as Compiled
 use Rattle.fold.specs.OneChain.{OneSum, SameChain}
 use Rattle.fold.specs.RowSpans.{Ordered, SameRow, text_of}
-use Rattle.fold.specs.declared.CompileAnswer.{CompileAnswer}
+use Rattle.fold.specs.Answer.{CompileAnswer}
 use Rattle.fold.specs.Compiling.{Compiling, too_short, refused, accepted}
 use Rattle.fold.proofs.Promise as Promise
 use Rattle.fold.proofs.Promise.{compiling_unique}
-use Rattle.reason.specs.declared.ReasonAnswer.{ReasonAnswer}
+use Rattle.reason.specs.Answer.{ReasonAnswer}
 use Rattle.reason.specs.RowTrees.{operand_spans, operator_over, row_tree}
 use Rattle.reason.specs.Reasons.{Stays, Folds, Named, Reason, would_fold}
 use Rattle.reason.specs.Explaining.{refusing, explaining, Explaining, not-counted, no_operator}
@@ -81,8 +76,7 @@ use Rattle.reason.proofs.OneReason as OneReason
 use Rattle.reason.proofs.TreeLaws as RowTrees
 use Rattle.reason.proofs.SoundRows as SoundRows
 use Rattle.reason.proofs.Answers as Reasons
-use Rattle.probe.specs.declared.ProbeAnswer.{ProbeAnswer}
-use Rattle.probe.specs.declared.Verdict.TheVariants.{NoVerdict}
+use Rattle.probe.specs.Answer.{ProbeAnswer, NoVerdict}
 use Rattle.probe.specs.Probe as ProbeSpec
 use Rattle.probe.specs.Probe.{offset, verdict, verdict_word, ahead, behind, within, unset, probe_answer}
 use Rattle.probe.proofs.Laws as Probe
@@ -90,9 +84,8 @@ use Rattle.table.specs.declared.Tool.{Tool}
 use Rattle.table.specs.Parts.{line_feed}
 use Rattle.table.specs.Run.{RunPrints}
 use Rattle.table_progress.specs.declared.Progress.{Progress}
-use Rattle.table_progress.specs.declared.Stepped.{Stepped}
 use Rattle.table_progress.specs.Run.{run}
-use Rattle.table_progress.specs.Steps.{started, Buffers, stepped, finished}
+use Rattle.table_progress.specs.Steps.{Stepped, started, Buffers, stepped, finished}
 use Rattle.table_progress.specs.Runs.{Roomy, Runs}
 use Rattle.table_progress.proofs.Readiness.{step_undone, end_undone}
 use Rattle.table_progress.proofs.Adding.{adds_up}

@@ -24,7 +24,7 @@ use Rattle.fold.proofs.FoldShape.{accepted-formed}
 use Rattle.fold.proofs.FoldValues.{fold-value}
 use Rattle.fold.proofs.ReadBack.{rows_back}
 use Rattle.fold.proofs.Compiled.{compiled_accepted, compiled_value}
-use Rattle.fold.specs.declared.CompileAnswer.{CompileAnswer}
+use Rattle.fold.specs.Answer.{CompileAnswer}
 use Rattle.fold.specs.Compiling.{Compiling, refused, accepted}
 use Rattle.fold.proofs.Promise.{compiling_unique}
 use Rattle.demands.specs.Starred as Starred

@@ -6,7 +6,7 @@ use Rattle.formula.specs.Tree.{Span, Tree, number, literal_power, raise, nodes, 
 use Rattle.formula.specs.Grammar.{Formula}
 use Rattle.formula.specs.Value.{value_for}
 use Rattle.formula.specs.Refusals.{TooDeep, Part}
-use Rattle.chain.specs.declared.ChainAnswer.{ChainAnswer}
+use Rattle.chain.specs.Answer.{ChainAnswer}
 use Rattle.chain.specs.SumChain.{sum_at}
 
 -- "Refused chain calls (13 to 15) return the constant 0 beside the number", place 0.

@@ -13,7 +13,7 @@ use Rattle.plan.specs.Plan as Plan
 use Rattle.plan.specs.Filling.{point_values, fill, cost_answer}
 use Rattle.fold.specs.Folding.{fold}
 use Rattle.fold.specs.Layout.{row_words, words_of, plan_words}
-use Rattle.fold.specs.declared.CompileAnswer.{CompileAnswer}
+use Rattle.fold.specs.Answer.{CompileAnswer}
 use Rattle.fold.specs.Compiling.{Compiling}
 
 -- ---- a line of the table

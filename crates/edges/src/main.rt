@@ -8,7 +8,6 @@ mod jobs;
 mod plans;
 
 use edges_calls::{backward, chains, formulas, probes};
-use edges_print as printing;
 use edges_text::{input, notation, text};
 use std::io;
 
@@ -19,53 +18,49 @@ fn case(rt: &impl Print, section: u8, line: &[u8], expanded: &[u8]) -> io::Resul
     let body = text::after(expanded, b'|');
     match section {
         b'c' => chains::print(rt, name, chains::work(body)),
-        b'v' => chains::value(rt, name, body),
+        b'v' => chains::value(rt, name, body, chain_calls::value),
         b's' => chains::sequence(rt, name, body),
         b'l' => chains::list(rt, name, body),
         b't' => eras::turn(rt, name, body),
-        b'b' => backward::value(rt, name, body),
+        b'b' => chains::value(rt, name, body, chain_backward::backward_value),
         b'w' => backward::walk(rt, name, body),
         b'o' => probes::offset(rt, name, body),
         b'f' => formulas::reading(rt, name, text::before(expanded, b'|'), body),
         b'p' => plans::run(rt, line, expanded),
         b'g' => grids::each(rt, line),
         b'j' => jobs::run(rt, line),
-        _ => printing::label(rt, printing::NO_SECTION),
+        _ => rt.println("no such section"),
     }
 }
 
 // Runs a case, unless the line is empty, a comment or the name of a section. Answers the section of the next line.
 fn turn(rt: &impl Print, section: u8, line: &[u8]) -> io::Result<u8> {
-    let mut bytes = [0u8; 7000];
-    match formula_digits::byte_at(line, 0) {
-        0 => Ok(section),
-        b';' => Ok(section),
-        b'[' => Ok(formula_digits::byte_at(line, 1)),
+    match line {
+        [] | [0 | b';', ..] => Ok(section),
+        [b'['] => Ok(0),
+        [b'[', letter, ..] => Ok(*letter),
         _ => {
-            let length = notation::expand(line, &mut bytes);
-            case(rt, section, line, text::part(&bytes, 0, length))?;
+            let mut bytes = [0; 7000];
+            case(rt, section, line, notation::expand(line, &mut bytes))?;
             Ok(section)
         }
     }
 }
 
-fn walk(rt: &impl Print, input: &[u8]) -> io::Result<()> {
+fn walk(rt: &impl Print, cases: &[u8]) -> io::Result<()> {
     let mut section = 0;
-    let mut at = 0;
-    while at < input.len() {
-        let line = text::cut(input, at, b'\n');
-        section = turn(rt, section, text::part(input, at, line.end))?;
-        at = line.after;
+    for line in cases.split_inclusive(|byte| *byte == b'\n') {
+        section = turn(rt, section, text::unmarked(line, b'\n'))?;
     }
     Ok(())
 }
 
 fn main(rt: HostRuntime) -> io::Result<()> {
-    let mut cases = [0u8; 65536];
+    let mut cases = [0; input::MOST_READ];
     let count = input::read_full(&mut rt.stdin(), &mut cases)?;
-    if count < 65536 {
+    if count < input::MOST_READ {
         walk(&rt, &cases[..count])
     } else {
-        printing::label(&rt, printing::TOO_LONG)
+        rt.println("the input is longer than 65535 bytes")
     }
 }

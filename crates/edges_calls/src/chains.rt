@@ -1,8 +1,10 @@
 // Chains worked out by the library's calls from postfix text, on a stack of three; and lists of coefficients of any count.
 // How the words of a list are read is in `words`.
+ghost use Rattle.std.specs.Prelude.{◌≤◌};
+
 use crate::backward;
-use chain::ChainAnswer;
-use edges_print as printing;
+use chain::{Chain, Refusal};
+use edges_print::{Judgement, List, clean};
 use edges_text::{text, words};
 use std::io;
 
@@ -47,173 +49,194 @@ const O: [u64; 17] = [
     5216717000746992735,
 ];
 
-// Three chains, each as a call answers it. One that no call has answered has the number and place of an accepted call.
+pub const ZERO: Chain = Chain {
+    length: 0,
+    elements: [0; 17],
+};
+
+// The most coefficients that a case lists.
+const MOST_LISTED: usize = 64;
+
+// Three answers. What is refused stands for the constant 0 in the calls that follow.
 #[derive(Clone, Copy)]
 pub struct Stack {
-    pub top: ChainAnswer,
-    pub second: ChainAnswer,
-    pub third: ChainAnswer,
+    top: Result<Chain, Refusal>,
+    second: Result<Chain, Refusal>,
+    third: Result<Chain, Refusal>,
 }
 
-// The stack with a chain in the place of the uppermost ones that were taken: none, one or two.
-pub fn placed(s: Stack, top: ChainAnswer, taken: usize) -> Stack {
-    let first = s.top;
-    let second = s.second;
-    let third = s.third;
-    match taken {
-        0 => Stack {
-            top,
-            second: first,
-            third: second,
-        },
-        1 => Stack { top, second, third },
-        _ => Stack {
-            top,
-            second: third,
-            third,
-        },
-    }
-}
-
-fn shifted(f: ChainAnswer) -> ChainAnswer {
-    let given = f.elements;
-    let answer = chain_calls::shift(given, f.length);
-    let elements = answer.elements;
-    ChainAnswer {
-        number: answer.number,
-        place: answer.place,
-        length: answer.length,
-        elements,
-    }
-}
-
-fn present(f: ChainAnswer) -> chain::ValueAnswer {
-    let elements = f.elements;
-    chain_calls::value(elements, f.length)
-}
-
-fn of_coefficients(list: &[u64], count: usize) -> ChainAnswer {
-    let held = words::at_most(count, list.len());
-    chain_coefficients::from_coefficients(&list[0..held])
-}
-
-// The length of a chain is one less than the words listed, so over 16 from 18 words on.
-pub fn operand(token: &[u8]) -> ChainAnswer {
-    let list = words::list(token);
-    let mut elements = list.words;
-    let mut length = std::num::wrapping_sub_usize(list.count, 1);
-    match formula_digits::byte_at(token, 0) {
-        b'm' => {
-            elements = M;
-            length = text::number(token, 0) as usize;
+impl Stack {
+    fn new() -> Stack {
+        let zero = Ok(ZERO);
+        Stack {
+            top: zero,
+            second: zero,
+            third: zero,
         }
-        b'o' => {
-            elements = O;
-            length = text::number(token, 0) as usize;
-        }
-        _ => {}
     }
-    ChainAnswer {
-        number: 0,
-        place: 0,
-        length,
-        elements,
+
+    pub fn top(self) -> Chain {
+        self.top.unwrap_or(ZERO)
+    }
+
+    pub fn second(self) -> Chain {
+        self.second.unwrap_or(ZERO)
+    }
+
+    pub fn pushed(self, top: Result<Chain, Refusal>) -> Stack {
+        Stack {
+            top,
+            second: self.top,
+            third: self.second,
+        }
+    }
+
+    // With an answer in the place of the top.
+    pub fn with_top(self, top: Result<Chain, Refusal>) -> Stack {
+        Stack {
+            top,
+            second: self.second,
+            third: self.third,
+        }
+    }
+
+    // With an answer in the place of the two uppermost ones.
+    pub fn with_both(self, top: Result<Chain, Refusal>) -> Stack {
+        Stack {
+            top,
+            second: self.third,
+            third: self.third,
+        }
+    }
+}
+
+// How many of a chain's words are its elements.
+fn held(f: Chain) -> usize
+    ensures { result ≤ 17 }
+{
+    f.length.min(16) + 1
+}
+
+fn shifted(f: Chain) -> Result<Chain, Refusal> {
+    let shifted = chain_calls::shift(f)?;
+    Ok(shifted.chain)
+}
+
+// The chain that has another one's elements for coefficients.
+fn of_elements(f: Chain) -> Result<Chain, Refusal> {
+    let count = f.length.wrapping_add(1).min(17);
+    chain_coefficients::from_coefficients(&f.elements[..count])
+}
+
+// A list of words, or m or o with a length. The length of a listed chain is one less than the words, so over 16 from 18 words on.
+pub fn operand(token: &[u8]) -> Chain {
+    match token {
+        [b'm', ..] => Chain {
+            length: text::number(token, 0) as usize,
+            elements: M,
+        },
+        [b'o', ..] => Chain {
+            length: text::number(token, 0) as usize,
+            elements: O,
+        },
+        _ => {
+            let elements = words::list::<17>(token);
+            Chain {
+                length: words::count(token).wrapping_sub(1),
+                elements,
+            }
+        }
     }
 }
 
 // The stack after a token. A list of words pushes a chain, and so does m or o with a length. An operator is a single byte: + - * take the
 // two uppermost chains; E shifts the top, T trims it, C takes its words as coefficients and D pushes it again. The other letters are in `backward`.
-fn step(s: Stack, token: &[u8]) -> Stack {
-    if token.len() != 1 {
-        return placed(s, operand(token), 0);
-    }
-    let top = s.top;
-    let second = s.second;
-    let f = second.elements;
-    let k = second.length;
-    let g = top.elements;
-    let l = top.length;
-    match formula_digits::byte_at(token, 0) {
-        b'+' => placed(s, chain_calls::sum(f, k, g, l), 2),
-        b'-' => placed(s, chain_calls::difference(f, k, g, l), 2),
-        b'*' => placed(s, chain_calls::product(f, k, g, l), 2),
-        b'E' => placed(s, shifted(top), 1),
-        b'T' => placed(s, chain_calls::trim(g, l), 1),
-        b'C' => placed(
-            s,
-            of_coefficients(&g, std::num::wrapping_add_usize(l, 1)),
-            1,
-        ),
-        b'D' => placed(s, top, 0),
-        _ => backward::step(s, token),
+fn step(stack: Stack, token: &[u8]) -> Stack {
+    let f = stack.second();
+    let g = stack.top();
+    match token {
+        [b'+'] => stack.with_both(chain_calls::sum(f, g)),
+        [b'-'] => stack.with_both(chain_calls::difference(f, g)),
+        [b'*'] => stack.with_both(chain_calls::product(f, g)),
+        [b'E'] => stack.with_top(shifted(g)),
+        [b'T'] => stack.with_top(chain_calls::trim(g)),
+        [b'C'] => stack.with_top(of_elements(g)),
+        [b'D'] => stack.pushed(stack.top),
+        [letter] if b'A' <= *letter => backward::step(stack, *letter),
+        _ => stack.pushed(Ok(operand(token))),
     }
 }
 
-// The stack's top after all tokens.
-pub fn work(tokens: &[u8]) -> ChainAnswer {
-    let elements = [0; 17];
-    let zero = ChainAnswer {
-        number: 0,
-        place: 0,
-        length: 0,
-        elements,
-    };
-    let mut s = Stack {
-        top: zero,
-        second: zero,
-        third: zero,
-    };
-    let mut at = 0;
-    while at < tokens.len() {
-        let blank = text::cut(tokens, at, b' ');
-        let next = step(s, text::part(tokens, at, blank.end));
-        s = next;
-        at = blank.after;
+// The answer on the stack's top after all tokens.
+pub fn work(tokens: &[u8]) -> Result<Chain, Refusal> {
+    let mut stack = Stack::new();
+    for token in tokens.split_inclusive(|byte| *byte == b' ') {
+        stack = step(stack, text::unmarked(token, b' '));
     }
-    s.top
+    stack.top
+}
+
+// The chain that is worked out; a refusal stands for the constant 0.
+pub fn worked(tokens: &[u8]) -> Chain {
+    work(tokens).unwrap_or(ZERO)
 }
 
 // number place length elements, and whether the words past the length are clean
-pub fn print(rt: &impl Print, name: &[u8], f: ChainAnswer) -> io::Result<()> {
-    let list = f.elements;
-    let count = words::at_most(f.length, 16) + 1;
-    printing::text(rt, name)?;
-    printing::answer(rt, printing::TAB, f.number, f.place)?;
-    printing::number(rt, f.length as u64)?;
-    printing::label(rt, printing::BLANK)?;
-    printing::list(rt, &list, count)?;
-    printing::clean(rt, &list, count, 17)?;
-    printing::label(rt, printing::LINE)
+pub fn print(rt: &impl Print, name: &[u8], answer: Result<Chain, Refusal>) -> io::Result<()> {
+    let judgement = Judgement::of(&answer);
+    let f = answer.unwrap_or(ZERO);
+    let count = held(f);
+    let (held, rest) = f.elements.split_at(count);
+    rt.write_all(name)?;
+    println!(rt; "\t{judgement} {} {} {}", f.length, List(held), clean(rest))
 }
 
-// number place word
-pub fn value(rt: &impl Print, name: &[u8], body: &[u8]) -> io::Result<()> {
-    let answer = present(work(body));
-    printing::text(rt, name)?;
-    printing::answer(rt, printing::TAB, answer.number, answer.place)?;
-    printing::number(rt, answer.word)?;
-    printing::label(rt, printing::LINE)
+// number place word: the present value
+pub fn value<F: Fn(Chain) -> Result<u64, Refusal>>(
+    rt: &impl Print,
+    name: &[u8],
+    body: &[u8],
+    present: F,
+) -> io::Result<()>
+    requires { F.IsAlwaysCallable present }
+{
+    let answer = present(worked(body));
+    rt.write_all(name)?;
+    println!(rt; "\t{} {}", Judgement::of(&answer), answer.unwrap_or(0))
 }
 
-// value,value,.. at the first 20 indices: the present value and a shift in turn
-pub fn sequence(rt: &impl Print, name: &[u8], body: &[u8]) -> io::Result<()> {
-    printing::text(rt, name)?;
-    printing::label(rt, printing::TAB)?;
-    let mut f = work(body);
-    let mut i = 0;
-    while i < 20 {
-        let present = present(f);
-        printing::element(rt, present.word, i)?;
-        let next = shifted(f);
-        f = next;
-        i += 1;
+// The values at 20 indices: the present one, and then what a step makes of the chain, in turn. What is refused is 0.
+pub fn values<F: Fn(Chain) -> Result<u64, Refusal>, G: Fn(Chain) -> Result<Chain, Refusal>>(
+    first: Chain,
+    present: F,
+    next: G,
+) -> [u64; 20]
+    requires present { F.IsAlwaysCallable present }
+    requires next { G.IsAlwaysCallable next }
+{
+    let mut f = first;
+    let mut values = [0; 20];
+    for value in values.iter_mut() {
+        *value = present(f).unwrap_or(0);
+        f = next(f).unwrap_or(ZERO);
     }
-    printing::label(rt, printing::LINE)
+    values
+}
+
+// value,value,.. at the first 20 indices
+pub fn sequence(rt: &impl Print, name: &[u8], body: &[u8]) -> io::Result<()> {
+    let values = values(worked(body), chain_calls::value, shifted);
+    rt.write_all(name)?;
+    println!(rt; "\t{}", List(&values))
 }
 
 // The chain of a list of coefficients, which may be empty or have more than 17 words.
 pub fn list(rt: &impl Print, name: &[u8], body: &[u8]) -> io::Result<()> {
-    let mut words = [0u64; 64];
-    let count = words::put_list(body, 0, &mut words, 0);
-    print(rt, name, of_coefficients(&words, count))
+    let words = words::list::<MOST_LISTED>(body);
+    let count = words::count(body).min(MOST_LISTED);
+    print(
+        rt,
+        name,
+        chain_coefficients::from_coefficients(&words[..count]),
+    )
 }

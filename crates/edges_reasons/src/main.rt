@@ -2,128 +2,89 @@
 // The cases stand in the file `stdin`, which says how they are written; what they must answer is in the file `stdout`.
 #![tactic(auto)]
 
-ghost use Rattle.std.specs.Prelude.{◌≤◌, length};
-
-use edges_print as printing;
-use edges_text::{input, notation, rows, text, words};
-use plan::{MOST_ROWS, PLAN_WORDS};
+use edges_print::Judgement;
+use edges_text::rows::{CasePlan, Grid};
+use edges_text::{input, notation, rows, text};
+use plan::MOST_ROWS;
+use reason::Explained;
 use std::io;
 
 // number place reason first end
-fn ask(rt: &impl Print, plan: &[u64], row: u64) -> io::Result<()> {
-    let answer = reason_call::reason(plan, row as usize);
-    printing::answer(rt, printing::TAB, answer.number, answer.place)?;
-    printing::number(rt, answer.reason)?;
-    printing::label(rt, printing::BLANK)?;
-    printing::number(rt, answer.first)?;
-    printing::label(rt, printing::BLANK)?;
-    printing::number(rt, answer.end)
-}
-
-// Every row from row 0 to the one past the last.
-fn ask_all(rt: &impl Print, plan: &[u64], count: usize) -> io::Result<()> {
-    let last = words::at_most(count, MOST_ROWS) as u64;
-    let mut row = 0;
-    while row <= last {
-        ask(rt, plan, row)?;
-        row += 1;
+fn ask(rt: &impl Print, plan: &[u64], row: usize) -> io::Result<()> {
+    let answer = reason_call::reason(plan, row);
+    let judgement = Judgement::of(&answer);
+    match answer {
+        Ok(Explained { reason, first, end }) => {
+            print!(rt;
+                "\t{judgement} {} {first} {end}",
+                reason.map_or(0, u64::from)
+            )
+        }
+        Err(_) => print!(rt; "\t{judgement} 0 0 0"),
     }
-    Ok(())
 }
 
 // Compiles into the words that are lent: number place rows
-fn compile_on(
-    rt: &impl Print,
-    formula: &[u8],
-    start: u64,
-    step: u64,
-    held: usize,
-    plan: &mut [u64],
-) -> io::Result<()>
-    requires { held ≤ length plan.old }
-{
-    let answer = compile::compile(formula, start, step, &mut plan[0..held]);
-    printing::label(rt, printing::TAB)?;
-    printing::answer(rt, printing::COMPILE, answer.number, answer.place)?;
-    printing::number(rt, words::word_at(plan, 0))
+fn compile_on(rt: &impl Print, formula: &[u8], grid: Grid, plan: &mut CasePlan) -> io::Result<()> {
+    let answer = compile::compile(formula, grid.start, grid.step, plan.lent());
+    print!(rt; "\tcompile {} {}", Judgement::of(&answer), plan.words[0])
 }
 
-// Does what a token says, and answers how many words of the plan are lent from then on. r5 asks for row 5; the others are those of `edges`.
-fn step(rt: &impl Print, token: &[u8], lent: usize, plan: &mut [u64]) -> io::Result<usize> {
-    let held = words::at_most(lent, plan.len());
-    match formula_digits::byte_at(token, 0) {
-        b'#' => {
-            return Ok(text::number(token, 0) as usize);
+// Does what a token says. r5 asks for row 5, =x^3 compiles a formula and g5,2:x^3 does on a grid; the others write the plan.
+fn step(rt: &impl Print, token: &[u8], plan: &mut CasePlan) -> io::Result<()> {
+    match token {
+        [b'r', row @ ..] => ask(rt, plan.lent(), text::number(row, 0) as usize),
+        [b'=', formula @ ..] => compile_on(rt, formula, rows::PLAIN, plan),
+        [b'g', gridded @ ..] => {
+            let grid = rows::grid_of(text::before(gridded, b':'));
+            compile_on(rt, text::after(gridded, b':'), grid, plan)
         }
-        b'@' => rows::plant(token, plan),
-        b'r' => ask(
-            rt,
-            &plan[0..held],
-            text::number(text::after(token, b'r'), 0),
-        )?,
-        b'=' => compile_on(rt, text::after(token, b'='), 0, 1, held, plan)?,
-        b'g' => {
-            let grid = rows::grid_of(token);
-            compile_on(
-                rt,
-                text::after(token, b':'),
-                grid.start,
-                grid.step,
-                held,
-                plan,
-            )?;
+        _ => {
+            plan.write(token);
+            Ok(())
         }
-        _ => rows::add(token, plan),
     }
-    Ok(lent)
 }
 
-// The line is the case's name too; its tokens have their repeats written out.
+// The line is the case's name too; its tokens have their repeats written out. Last, every row is asked for from row 0 to the one past the last.
 fn run(rt: &impl Print, line: &[u8], tokens: &[u8]) -> io::Result<()> {
-    let mut plan = [0u64; 3000];
-    let mut lent = PLAN_WORDS;
-    let mut at = 0;
-    printing::text(rt, line)?;
-    while at < tokens.len() {
-        let blank = text::cut(tokens, at, b' ');
-        lent = step(rt, text::part(tokens, at, blank.end), lent, &mut plan)?;
-        at = blank.after;
+    let mut plan = CasePlan::new();
+    rt.write_all(line)?;
+    for token in tokens.split_inclusive(|byte| *byte == b' ') {
+        step(rt, text::unmarked(token, b' '), &mut plan)?;
     }
-    let count = words::word_at(&plan, 0) as usize;
-    let held = words::at_most(lent, plan.len());
-    ask_all(rt, &plan[0..held], count)?;
-    printing::label(rt, printing::LINE)
+    let last = (plan.words[0] as usize).min(MOST_ROWS);
+    for row in 0..=last {
+        ask(rt, plan.lent(), row)?;
+    }
+    println!(rt; "")
 }
 
 // Runs a case, unless the line is empty or a comment.
 fn turn(rt: &impl Print, line: &[u8]) -> io::Result<()> {
-    let mut bytes = [0u8; 2000];
-    match formula_digits::byte_at(line, 0) {
-        0 => Ok(()),
-        b';' => Ok(()),
+    match line {
+        [] | [0 | b';', ..] => Ok(()),
         _ => {
-            let length = notation::expand(line, &mut bytes);
-            run(rt, line, text::part(&bytes, 0, length))
+            let mut bytes = [0; 2000];
+            run(rt, line, notation::expand(line, &mut bytes))
         }
     }
 }
 
-fn walk(rt: &impl Print, input: &[u8]) -> io::Result<()> {
-    let mut at = 0;
-    while at < input.len() {
-        let line = text::cut(input, at, b'\n');
-        turn(rt, text::part(input, at, line.end))?;
-        at = line.after;
+// Kept: `edges` has a walk of its own, which hands the section on from line to line.
+fn walk(rt: &impl Print, cases: &[u8]) -> io::Result<()> {
+    for line in cases.split_inclusive(|byte| *byte == b'\n') {
+        turn(rt, text::unmarked(line, b'\n'))?;
     }
     Ok(())
 }
 
 fn main(rt: HostRuntime) -> io::Result<()> {
-    let mut cases = [0u8; 65536];
+    let mut cases = [0; input::MOST_READ];
     let count = input::read_full(&mut rt.stdin(), &mut cases)?;
-    if count < 65536 {
+    if count < input::MOST_READ {
         walk(&rt, &cases[..count])
     } else {
-        printing::label(&rt, printing::TOO_LONG)
+        rt.println("the input is longer than 65535 bytes")
     }
 }

@@ -1,85 +1,67 @@
 // The notation in which a line writes repeats, and the bytes that it stands for.
 // {3:+x} stands for +x three times and <10> for the byte 10; every other byte stands for itself.
-ghost use Rattle.std.specs.Prelude.{◌<◌, ◌≤◌, length};
+ghost use Rattle.std.specs.Prelude.{◌≤◌, length};
 
-use crate::{text, words};
+use crate::text;
 
-// A token: how many bytes it writes in all; the part of the notation that it repeats, by its place and size, or the byte that it writes
-// where the size is 0; and where the next token begins.
-#[derive(Clone, Copy)]
-struct Piece {
-    total: usize,
-    from: usize,
-    size: usize,
-    byte: u8,
-    after: usize,
-}
-
-// The token that begins at `at`.
-fn token(notation: &[u8], at: usize) -> Piece
-    requires { at < length notation.now }
-    ensures { (at < result.after) × (result.after ≤ length notation.now) }
+// Writes a byte behind those that are written so far, if there is room, and answers the new end.
+fn written(byte: u8, out: &mut [u8], end: usize) -> usize
+    requires { end ≤ length out.old }
+    ensures { result ≤ length out.new }
 {
-    match notation[at] {
-        b'{' => {
-            let colon = text::cut(notation, at, b':');
-            let end = text::cut(notation, at, b'}');
-            let times = text::number(text::part(notation, at, colon.end), 0);
-            let size = std::num::wrapping_sub_usize(end.end, colon.after);
-            Piece {
-                total: word::times(times, size as u64) as usize,
-                from: colon.after,
-                size,
-                byte: 0,
-                after: end.after,
-            }
+    match out.get_mut(end) {
+        Some(place) => {
+            *place = byte;
+            end + 1
         }
-        b'<' => {
-            let end = text::cut(notation, at, b'>');
-            let byte = text::number(text::part(notation, at, end.end), 0) % 256;
-            Piece {
-                total: 1,
-                from: at,
-                size: 0,
-                byte: byte as u8,
-                after: end.after,
-            }
-        }
-        _ => Piece {
-            total: 1,
-            from: at,
-            size: 1,
-            byte: 0,
-            after: at + 1,
-        },
+        None => end,
     }
 }
 
-// Writes a token behind what is written so far, as far as there is room, and answers the new end.
-fn written(notation: &[u8], token: Piece, out: &mut [u8], end: usize) -> usize {
-    let size = token.size;
-    let stop = words::at_most(std::num::wrapping_add_usize(end, token.total), out.len());
-    let mut last = end;
-    while last < stop {
-        let mut byte = token.byte;
-        if 0 < size {
-            let place = std::num::wrapping_add_usize(token.from, (last - end) % size);
-            byte = formula_digits::byte_at(notation, place);
-        }
-        out[last] = byte;
-        last += 1;
+// The same of a repeat, with which a text begins, as {3:+x}: as many bytes as its size and its number make, as far as there is room.
+fn repeated(text: &[u8], out: &mut [u8], end: usize) -> usize
+    requires { end ≤ length out.old }
+    ensures { result ≤ length out.new }
+{
+    let times = text::number(text::before(text, b':'), 0);
+    let bytes = text::after(text, b':');
+    let inside = text::before(text, b'}').len();
+    let size = inside.wrapping_sub(text.len() - bytes.len());
+    if size == 0 {
+        return end;
     }
-    last
+    let total = times.wrapping_mul(size as u64) as usize;
+    let stop = end.wrapping_add(total).min(out.len());
+    let Some(room) = out.get_mut(end..stop) else {
+        return end;
+    };
+    for (i, place) in room.iter_mut().enumerate() {
+        *place = bytes.get(i % size).copied().unwrap_or(0);
+    }
+    stop
 }
 
-// Writes the bytes that the notation stands for, as far as there is room, and answers how many.
-pub fn expand(notation: &[u8], out: &mut [u8]) -> usize {
+// Writes the bytes that the notation stands for, as far as there is room, and lends them.
+pub fn expand<'a>(notation: &[u8], out: &'a mut [u8]) -> &'a mut [u8] {
     let mut end = 0;
-    let mut at = 0;
-    while at < notation.len() {
-        let next = token(notation, at);
-        end = written(notation, next, out, end);
-        at = next.after;
+    let mut rest = notation;
+    // Kept: how long a token is shows as it is read, so no iterator of the library parts the notation in tokens.
+    while let Some((first, behind)) = rest.split_first() {
+        match first {
+            b'{' => {
+                end = repeated(rest, out, end);
+                rest = text::after(behind, b'}');
+            }
+            b'<' => {
+                let byte = text::number(text::before(rest, b'>'), 0) % 256;
+                end = written(byte as u8, out, end);
+                rest = text::after(behind, b'>');
+            }
+            _ => {
+                end = written(*first, out, end);
+                rest = behind;
+            }
+        }
     }
-    end
+    &mut out[..end]
 }

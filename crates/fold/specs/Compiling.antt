@@ -5,7 +5,7 @@ use Rattle.formula.specs.Tree.{Tree, span_of}
 use Rattle.formula.specs.Refusals.{Refused, Accepted}
 use Rattle.fold.specs.Folding.{fold}
 use Rattle.fold.specs.Layout.{plan_words}
-use Rattle.fold.specs.declared.CompileAnswer.{CompileAnswer}
+use Rattle.fold.specs.Answer.{CompileAnswer}
 
 -- "1: plan shorter than" its words, 2,817 now; then 2 to 8, "the first number that applies"; "a refusal alters no lent word". Otherwise "Compiling
 -- writes all" of them; "words after these stay as they were": the plan of the folded tree, whose root came from all that the formula's root spans.

@@ -3,5 +3,6 @@ pub mod Folded
 pub mod Folding
 pub mod Layout
 pub mod OneChain
+pub mod Answer
 pub mod Compiling
 pub mod RowSpans

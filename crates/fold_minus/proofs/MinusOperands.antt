@@ -5,8 +5,8 @@ use Rattle.word.specs.Word as Word
 use Rattle.chain.specs.Chain.{trimmed, row}
 use Rattle.chain.specs.SumChain.{difference}
 use Rattle.chain.specs.ProductChain as ProductChain
-use Rattle.chain.specs.declared.ChainAnswer.{ChainAnswer}
-use Rattle.chain.specs.Answer.{answered, difference_outcome}
+use Rattle.chain.specs.Answer.{ChainAnswer}
+use Rattle.chain.specs.Answer.{answered, chain, difference_outcome}
 use Rattle.plan.specs.Row as Row
 use Rattle.plan.specs.Row.{word_a, elements}
 use Rattle.plan.specs.Plan as Plan
@@ -26,29 +26,34 @@ use Rattle.chain.proofs.Calls.{difference_as}
 use Rattle.fold_operands.proofs.CallsOnRows.{call_answer}
 
 module _ {p : List ℕ} {first end : ℕ} (s : Span) (a : Folded) (o : Operand p first end s a) where
-  pub leaves-negated : {z f : List ℕ} {k : ℕ} {answer : ChainAnswer} {q : List ℕ} → Row.kind (Plan.row p (end - 1)) < 2
+  abbrev negated : List ℕ
+  negated = difference 64 (0 ∷ []) (Folded.elements a)
+
+  -- The difference for a constant or a sum chain is not refused.
+  pub negated-accepted : {z f : List ℕ} {k : ℕ} {answer : ChainAnswer} → Row.kind (Plan.row p (end - 1)) < 2
       → z ≡ row 17 [] → f ≡ elements (Plan.row p (end - 1)) → k ≡ word_a (Plan.row p (end - 1))
-      → answer ≡ answered (difference_outcome 64 z 0 f k)
+      → answer ≡ answered (difference_outcome 64 z 0 f k) → answer ≡ answered (chain (trimmed 0 negated))
+  unfolding row
+  negated-accepted small ez ef ek ea =
+      ea
+      ∙ (λ i. answered (difference_outcome 64 (ez i) 0 ((ef ∙ operand-elements o few) i) ((ek ∙ operand-last o few) i)))
+      ∙ ap answered (call_answer (difference 64) (difference_as 64) (0 ∷ []) (Folded.elements a) (record { some = omega arith; most = omega arith }) (operand-chain o few))
+    where
+      few : kind_of a ≤ 2
+      few = omega (arith, operand-kind o)
+
+  pub leaves-negated : {answer : ChainAnswer} {q : List ℕ} → Row.kind (Plan.row p (end - 1)) < 2
+      → answer ≡ answered (chain (trimmed 0 negated))
       → q ≡ with_row p first (cond (eqb answer.length 0) 0 1 ∷ answer.length ∷ 0 ∷ answer.elements ++ 0 ∷ 0 ∷ [])
       → Left p first (fold_minus 64 s a) (first + 1) q
-  unfolding row
-  leaves-negated small ez ef ek ea put =
-      left_as (minus_rule 64 s (sum-operand a low) (operand-chain o few).some)
-      (sum_left (trimmed 0 negated)
-      (answer-put p first negated
-      (ea
-      ∙ (λ i. answered (difference_outcome 64 (ez i) 0 ((ef ∙ operand-elements o few) i) ((ek ∙ operand-last o few) i)))
-      ∙ ap answered (call_answer (difference 64) (difference_as 64) (0 ∷ []) (Folded.elements a) (record { some = omega arith; most = omega arith }) (operand-chain o few)))
-      put))
+  leaves-negated small ea put =
+      left_as (minus_rule 64 s (sum-operand a low) (operand-chain o few).some) (sum_left (trimmed 0 negated) (answer-put p first negated ea put))
     where
       low : kind_of a < 2
       low = omega (arith, operand-kind o)
 
       few : kind_of a ≤ 2
       few = omega (arith, low)
-
-      negated : List ℕ
-      negated = difference 64 (0 ∷ []) (Folded.elements a)
 
   pub leaves-first-negated : {f e : List ℕ} {k v : ℕ} {q : List ℕ} → Row.kind (Plan.row p (end - 1)) ≡ 2
       → e ≡ elements (Plan.row p (end - 1)) → k ≡ word_a (Plan.row p (end - 1)) → f ≡ filled_with_ones 17 (take (k + 1) e)

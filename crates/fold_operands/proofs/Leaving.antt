@@ -8,7 +8,7 @@ use native.Mathlib.Omega.{arith}
 use lib.Dec.{eqb}
 use lib.ListN.{length, set}
 use Rattle.plan.specs.Measures.{plan_length, row_start, most_rows}
-use Rattle.chain.specs.declared.ChainAnswer.{ChainAnswer}
+use Rattle.chain.specs.Answer.{ChainAnswer}
 use Rattle.chain.specs.Chain.{trimmed, row}
 use Rattle.chain.specs.Answer.{answered, chain}
 use Rattle.chain.proofs.Trimming.{length-trimmed_some}

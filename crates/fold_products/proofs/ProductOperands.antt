@@ -13,7 +13,7 @@ use Rattle.chain.specs.SumChain.{product}
 use Rattle.chain.specs.ProductChain.{joint_product}
 use Rattle.chain.specs.ProductChain as ProductChain
 use Rattle.chain.specs.Answer.{given, answered, chain, product_outcome}
-use Rattle.chain.specs.declared.ChainAnswer.{ChainAnswer}
+use Rattle.chain.specs.Answer.{ChainAnswer}
 use Rattle.chain.proofs.Trimming.{length-trimmed}
 use Rattle.plan.specs.Row.{kind, word_a, elements}
 use Rattle.plan.specs.Plan.{row}
@@ -67,8 +67,9 @@ module _ (p : List ℕ) (at : ℕ) (f g : List ℕ) (k l : ℕ) (within : k + l 
   abbrev chain_product : List ℕ
   chain_product = words 64 (product (given f k) (given g l))
 
-  answer : answered (product_outcome 64 f k g l) ≡ answered (chain (trimmed 0 chain_product))
-  answer =
+  -- The call on them is not refused.
+  pub product-accepted : answered (product_outcome 64 f k g l) ≡ answered (chain (trimmed 0 chain_product))
+  product-accepted =
       rw (le-ltb 16 k (omega arith), le-ltb 16 l (omega arith), le-ltb 16 (length (given f k) - 1 + (length (given g l) - 1)) lengths)
     where
       lengths : length (given f k) - 1 + (length (given g l) - 1) ≤ 16
@@ -76,7 +77,7 @@ module _ (p : List ℕ) (at : ℕ) (f g : List ℕ) (k l : ℕ) (within : k + l 
 
   pub sums_put : {r : ChainAnswer} {q : List ℕ} → r ≡ answered (product_outcome 64 f k g l)
       → q ≡ with_row p at (cond (eqb r.length 0) 0 1 ∷ r.length ∷ 0 ∷ r.elements ++ 0 ∷ 0 ∷ []) → q ≡ placed p at no_span (trimmed_sum chain_product)
-  sums_put hr = answer-put p at chain_product (hr ∙ answer)
+  sums_put hr = answer-put p at chain_product (hr ∙ product-accepted)
 
 -- ---- what the code leaves of two operands
 module _ {p : List ℕ} {left middle end : ℕ} {s : Spans} {a b : Folded} (o : Operands p left middle end s a b) where

@@ -2,8 +2,8 @@
 // What is read of two factors is in `fold_factors`. Which node is a product is decided in `compile`; sums and powers are in `fold_sums` and `fold_powers`.
 #![tactic(auto)]
 
-ghost use Rattle.std.specs.Prelude.{◌≡◌, ◌+◌, ◌≤◌, ◌<◌, length};
-ghost use Rattle.plan.specs.Measures.{plan_length, most_rows};
+ghost use Rattle.std.specs.Prelude.{◌≡◌, ◌+◌, ◌≤◌, ◌<◌};
+ghost use Rattle.plan.specs.Measures.{most_rows};
 ghost use Rattle.chain.specs.Chain.{words};
 ghost use Rattle.chain.specs.SumChain.{product};
 ghost use Rattle.chain.specs.ProductChain.{joint_product};
@@ -15,15 +15,16 @@ ghost use Rattle.fold_rows.specs.Standing.{placed, no_span};
 ghost use Rattle.fold_operands.specs.OperandRows.{sum_in, product_in};
 ghost use Rattle.fold_operands.specs.Operands.{Two, FoldsBoth};
 
-use chain_arrays::Operation;
+use chain_arrays::Product;
 use fold_factors::{are_products, are_sums, filled, has_zero};
-use fold_operands::{append, is_constant, length_of, put_constant, put_sum};
+use fold_operands::{Pair, append, chain_in, is_constant, put_constant, put_sum};
 use fold_rows::{moved_rows, product_rows};
+use plan::PlanWords;
 use plan_rows::kinds::PRODUCT;
 
+// Kept: the two that follow differ in what they read of a row, in how they multiply and in what they put: no line of their bodies is one line.
 // The product of the sum chains in rows a and b by document 000's rule, in row r.
-fn put_product_of_sums(plan: &mut [u64], r: usize, a: usize, b: usize)
-    requires plan_length_in_bounds { plan_length ≤ length plan.old }
+fn put_product_of_sums(plan: &mut PlanWords, r: usize, a: usize, b: usize)
     requires r_lt_most_rows { r < most_rows }
     requires a_lt_most_rows { a < most_rows }
     requires b_lt_most_rows { b < most_rows }
@@ -32,16 +33,12 @@ fn put_product_of_sums(plan: &mut [u64], r: usize, a: usize, b: usize)
         ≡ placed plan.old r no_span
         (trimmed_sum (words 64 (product (sum_in (row plan.old a)) (sum_in (row plan.old b))))) }
 {
-    let f = fold_rows::elements(plan, a);
-    let k = length_of(plan, a);
-    let g = fold_rows::elements(plan, b);
-    let l = length_of(plan, b);
-    put_sum(plan, r, chain_calls::product(f, k, g, l));
+    let product = chain_calls::product(chain_in(plan, a), chain_in(plan, b)).unwrap();
+    put_sum(plan, r, product);
 }
 
 // The product of the product chains in rows a and b, in row r.
-fn put_product_of_products(plan: &mut [u64], r: usize, a: usize, b: usize)
-    requires plan_length_in_bounds { plan_length ≤ length plan.old }
+fn put_product_of_products(plan: &mut PlanWords, r: usize, a: usize, b: usize)
     requires r_lt_most_rows { r < most_rows }
     requires a_lt_most_rows { a < most_rows }
     requires b_lt_most_rows { b < most_rows }
@@ -53,20 +50,16 @@ fn put_product_of_products(plan: &mut [u64], r: usize, a: usize, b: usize)
 {
     let f = filled(plan, a);
     let g = filled(plan, b);
-    product_rows::put_product(
-        plan,
-        r,
-        chain_arrays::word_by_word(Operation::Product, f, g),
-    );
+    product_rows::put_product(plan, r, chain_arrays::word_by_word::<Product>(f, g));
 }
 
 // Constants 1 and 0 first, then sum chains, then product chains; anything else stays a row.
-pub fn fold_product(plan: &mut [u64], left: usize, middle: usize, end: usize) -> usize
-    requires plan_length_in_bounds { plan_length ≤ length plan.old }
-    requires end_lt_most_rows { end < most_rows }
-    requires two { Two plan.old left middle end }
-    ensures { FoldsBoth (fold_product 64) plan.old left middle end result plan.new }
+pub fn fold_product(plan: &mut PlanWords, pair: Pair) -> usize
+    requires end_lt_most_rows { pair.end < most_rows }
+    requires two { Two plan.old pair.left pair.middle pair.end }
+    ensures { FoldsBoth (fold_product 64) plan.old pair.left pair.middle pair.end result plan.new }
 {
+    let Pair { left, middle, end } = pair;
     let left_root = middle - 1;
     let right_root = end - 1;
     if is_constant(plan, left_root, 1) {

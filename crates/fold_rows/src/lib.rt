@@ -6,50 +6,44 @@ pub mod moved_rows;
 pub mod product_rows;
 
 ghost use Rattle.std.specs.Prelude.{◌≡◌, cond, [], ◌∷◌, ◌++◌, ◌≤◌, ◌<◌, eqb, length};
-ghost use Rattle.plan.specs.Measures.{plan_length, span_start, most_rows};
+ghost use Rattle.plan.specs.Measures.{plan_length, row_length, most_rows};
 ghost use Rattle.plan.specs.Row.{elements};
 ghost use Rattle.plan.specs.Plan.{row};
 ghost use Rattle.formula.specs.Tree.{span};
 ghost use Rattle.fold_rows.specs.Standing.{with_row, with_span};
 
-use plan::{ELEMENT_COUNT, ELEMENTS_START, SPAN_START};
+use chain::Chain;
+use plan::{ELEMENTS_START, PlanWords, ROW_WORDS, SPAN_START};
 use plan_rows::kinds::CONSTANT;
 use plan_rows::row;
 
 // The 17 element words of row r.
-pub fn elements(plan: &[u64], r: usize) -> [u64; 17]
-    requires plan_length_in_bounds { plan_length ≤ length plan.now }
-    requires r_lt_most_rows { r < most_rows }
+pub fn elements(plan: &PlanWords, r: usize) -> [u64; 17]
+    requires { r < most_rows }
     ensures { result ≡ elements (row plan.now r) }
 {
     let words = row(plan, r);
     let mut e = chain_arrays::zeros();
-    let mut j = 0;
-    while j < ELEMENT_COUNT {
-        e[j] = words[ELEMENTS_START + j];
-        j += 1;
-    }
+    e.copy_from_slice(&words[ELEMENTS_START..SPAN_START]);
     e
 }
 
-// The words of a row before its span.
+// All words of a row, without a span.
 fn write_row(row: &mut [u64], kind: u64, a: u64, b: u64, elements: [u64; 17])
-    requires { length row.old ≡ span_start }
-    ensures { row.new ≡ kind ∷ a ∷ b ∷ elements }
+    requires { length row.old ≡ row_length }
+    ensures { row.new ≡ kind ∷ a ∷ b ∷ elements ++ 0 ∷ 0 ∷ [] }
 {
     row[0] = kind;
     row[1] = a;
     row[2] = b;
-    chain_arrays::lay(
-        elements,
-        &mut row[ELEMENTS_START..ELEMENTS_START + ELEMENT_COUNT],
-    );
+    row[ELEMENTS_START..SPAN_START].copy_from_slice(&elements);
+    row[SPAN_START] = 0;
+    row[SPAN_START + 1] = 0;
 }
 
 // The span of row r: first byte and end byte of the text that it came from.
-pub fn put_span(plan: &mut [u64], r: usize, first: u64, end: u64)
-    requires plan_length_in_bounds { plan_length ≤ length plan.old }
-    requires r_lt_most_rows { r < most_rows }
+pub fn put_span(plan: &mut PlanWords, r: usize, first: u64, end: u64)
+    requires { r < most_rows }
     ensures { plan.new ≡ with_row plan.old r (with_span (row plan.old r) (span first end)) }
 {
     let at = plan_rows::start(r) + SPAN_START;
@@ -64,26 +58,15 @@ pub fn write(plan: &mut [u64], r: usize, kind: u64, a: u64, b: u64, elements: [u
     ensures { plan.new ≡ with_row plan.old r (kind ∷ a ∷ b ∷ elements ++ 0 ∷ 0 ∷ []) }
 {
     let at = plan_rows::start(r);
-    write_row(&mut plan[at..at + SPAN_START], kind, a, b, elements);
-    put_span(plan, r, 0, 0);
+    write_row(&mut plan[at..at + ROW_WORDS], kind, a, b, elements);
 }
 
-// A chain of length 0 is a constant.
-fn kind_of(chain: u64, last: usize) -> u64
-    ensures { result ≡ cond (eqb last 0) 0 chain }
+// The row of a chain of the given kind; a chain of length 0 is a constant.
+// Kept: `kind` is a number, since a parameter of a call between crates keeps all its values.
+pub fn put_chain(plan: &mut PlanWords, r: usize, kind: u64, f: Chain)
+    requires { r < most_rows }
+    ensures { plan.new ≡ with_row plan.old r (cond (eqb f.length 0) 0 kind ∷ f.length ∷ 0 ∷ f.elements ++ 0 ∷ 0 ∷ []) }
 {
-    if last == 0 {
-        return CONSTANT;
-    }
-    chain
-}
-
-// The row of a chain of the given kind with the elements 0 to last, or of a constant.
-pub fn put_chain(plan: &mut [u64], r: usize, chain: u64, last: usize, elements: [u64; 17])
-    requires plan_length_in_bounds { plan_length ≤ length plan.old }
-    requires r_lt_most_rows { r < most_rows }
-    ensures { plan.new ≡ with_row plan.old r (cond (eqb last 0) 0 chain ∷ last ∷ 0 ∷ elements ++ 0 ∷ 0 ∷ []) }
-{
-    let kind = kind_of(chain, last);
-    write(plan, r, kind, last as u64, 0, elements);
+    let row_kind = if f.length == 0 { CONSTANT } else { kind };
+    write(plan, r, row_kind, f.length as u64, 0, f.elements);
 }

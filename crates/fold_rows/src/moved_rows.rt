@@ -6,32 +6,18 @@ ghost use Rattle.plan.specs.Plan.{row};
 ghost use Rattle.fold_rows.specs.Standing.{with_row, lowered, moved_down};
 
 use crate::{elements, put_span, write};
-use plan::SPAN_START;
+use plan::{PlanWords, SPAN_START};
 use plan_rows::kinds::operand_count;
 use plan_rows::word;
-
-// One less, or 0.
-fn before(word: u64) -> u64
-    ensures { result ≡ word - 1 }
-{
-    if word == 0 {
-        return 0;
-    }
-    word - 1
-}
 
 // A word of a row that is moved down: one less if it names a row.
 fn lowered(word: u64, named: bool) -> u64
     ensures { result ≡ cond named (word - 1) word }
 {
-    if named {
-        return before(word);
-    }
-    word
+    if named { word.saturating_sub(1) } else { word }
 }
 
-fn move_row(plan: &mut [u64], r: usize)
-    requires plan_length_in_bounds { plan_length ≤ length plan.old }
+fn move_row(plan: &mut PlanWords, r: usize)
     requires le_r { 1 ≤ r }
     requires r_lt_most_rows { r < most_rows }
     ensures { plan.new ≡ with_row plan.old (r - 1) (lowered (row plan.old r)) }
@@ -49,16 +35,13 @@ fn move_row(plan: &mut [u64], r: usize)
 }
 
 // The rows from first up to end, each moved down by one.
-pub fn move_down(plan: &mut [u64], first: usize, end: usize)
-    requires plan_length_in_bounds { plan_length ≤ length plan.old }
+pub fn move_down(plan: &mut PlanWords, first: usize, end: usize)
     requires le_first { 1 ≤ first }
     requires first_le_end { first ≤ end }
     requires end_le_most_rows { end ≤ most_rows }
     ensures { plan.new ≡ moved_down first (end - first) plan.old }
 {
-    let mut r = first;
-    while r < end {
+    for r in first..end {
         move_row(plan, r);
-        r += 1;
     }
 }

@@ -9,8 +9,8 @@ use lib.ListN.{length}
 use borrow.Author.Tests.{ltb-true}
 use Rattle.plan.specs.Measures.{row_start}
 use Rattle.chain.specs.Chain.{trimmed}
-use Rattle.chain.specs.declared.ChainAnswer.{ChainAnswer}
-use Rattle.chain.specs.Answer.{answered}
+use Rattle.chain.specs.Answer.{ChainAnswer}
+use Rattle.chain.specs.Answer.{answered, chain}
 use Rattle.plan.specs.Row as Row
 use Rattle.plan.specs.Row.{word_a, elements}
 use Rattle.plan.specs.Plan as Plan
@@ -35,40 +35,44 @@ module _ {kind : ℕ} (which : SumOrDifference kind) {p : List ℕ} {left middle
   kinds_test = test ∙ ap₂ (λ x y. ltb x 2 && ltb y 2) (operand-kind o.first) (operand-kind o.second)
 
   -- Both are constants or sum chains.
-  pub leaves-chain : t ≡ true → {answer : ChainAnswer} {q : List ℕ}
-      → answer
-      ≡ answered (both_outcome 64 kind (elements (Plan.row p (middle - 1))) (word_a (Plan.row p (middle - 1)))
-      (elements (Plan.row p (end - 1))) (word_a (Plan.row p (end - 1))))
-      → q ≡ with_row p left (cond (eqb answer.length 0) 0 1 ∷ answer.length ∷ 0 ∷ answer.elements ++ 0 ∷ 0 ∷ [])
-      → Left p left (fold_sum_or_difference 64 kind s a b) (left + 1) q
-  leaves-chain holds ea put =
-      left_as (both_rule 64 which s (sum-operand a less_a) (sum-operand b less_b))
-      (sum_left (trimmed 0 result)
-      (answer-put p left result
-      (ea
-      ∙ (λ i. answered (both_outcome 64 kind (operand-elements o.first few_a i) (operand-last o.first few_a i)
-      (operand-elements o.second few_b i) (operand-last o.second few_b i)))
-      ∙ ap answered
-      (both-answer 64 which (Folded.elements a) (Folded.elements b) (operand-chain o.first few_a) (operand-chain o.second few_b)))
-      put))
-    where
-      result : List ℕ
-      result = chain_of_both 64 kind (Folded.elements a) (Folded.elements b)
+  module _ (holds : t ≡ true) where
+    abbrev result : List ℕ
+    result = chain_of_both 64 kind (Folded.elements a) (Folded.elements b)
 
-      tests : (ltb (kind_of a) 2 ≡ true) × (ltb (kind_of b) 2 ≡ true)
-      tests = (and-eq-true_iff (ltb (kind_of a) 2) (ltb (kind_of b) 2)).0 (sym kinds_test ∙ holds)
+    tests : (ltb (kind_of a) 2 ≡ true) × (ltb (kind_of b) 2 ≡ true)
+    tests = (and-eq-true_iff (ltb (kind_of a) 2) (ltb (kind_of b) 2)).0 (sym kinds_test ∙ holds)
 
-      less_a : kind_of a < 2
-      less_a = ltb-true (kind_of a) 2 tests.0
+    less_a : kind_of a < 2
+    less_a = ltb-true (kind_of a) 2 tests.0
 
-      less_b : kind_of b < 2
-      less_b = ltb-true (kind_of b) 2 tests.1
+    less_b : kind_of b < 2
+    less_b = ltb-true (kind_of b) 2 tests.1
 
-      few_a : kind_of a ≤ 2
-      few_a = omega (arith, less_a)
+    few_a : kind_of a ≤ 2
+    few_a = omega (arith, less_a)
 
-      few_b : kind_of b ≤ 2
-      few_b = omega (arith, less_b)
+    few_b : kind_of b ≤ 2
+    few_b = omega (arith, less_b)
+
+    -- The call on them is not refused.
+    pub both-accepted : {answer : ChainAnswer}
+        → answer
+        ≡ answered (both_outcome 64 kind (elements (Plan.row p (middle - 1))) (word_a (Plan.row p (middle - 1)))
+        (elements (Plan.row p (end - 1))) (word_a (Plan.row p (end - 1))))
+        → answer ≡ answered (chain (trimmed 0 result))
+    both-accepted ea =
+        ea
+        ∙ (λ i. answered (both_outcome 64 kind (operand-elements o.first few_a i) (operand-last o.first few_a i)
+        (operand-elements o.second few_b i) (operand-last o.second few_b i)))
+        ∙ ap answered
+        (both-answer 64 which (Folded.elements a) (Folded.elements b) (operand-chain o.first few_a) (operand-chain o.second few_b))
+
+    pub leaves-chain : {answer : ChainAnswer} {q : List ℕ} → answer ≡ answered (chain (trimmed 0 result))
+        → q ≡ with_row p left (cond (eqb answer.length 0) 0 1 ∷ answer.length ∷ 0 ∷ answer.elements ++ 0 ∷ 0 ∷ [])
+        → Left p left (fold_sum_or_difference 64 kind s a b) (left + 1) q
+    leaves-chain ea put =
+        left_as (both_rule 64 which s (sum-operand a less_a) (sum-operand b less_b))
+        (sum_left (trimmed 0 result) (answer-put p left result ea put))
 
   -- Not both.
   module _ (fails : t ≡ false) {z : Bool} (zero_right : z ≡ constant_at p (end - 1) 0) where

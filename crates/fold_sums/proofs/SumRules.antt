@@ -17,7 +17,14 @@ use Rattle.fold.specs.Layout.{row_count}
 use Rattle.fold_operands.proofs.OperandLaws.{Chain, Sum, one, several}
 use Rattle.fold_operands.proofs.CallsOnRows.{call_answer}
 use Rattle.fold_minus.proofs.MinusRules.{minus-rows}
-use Rattle.fold_sums.specs.ByKind.{SumOrDifference, plus, less, fold_sum_or_difference, chain_of_both, both_outcome, fold_alone, row_of_both}
+use Rattle.fold_sums.specs.declared.Additive.{Additive}
+use Rattle.fold_sums.specs.declared.Additive.TheVariants as Variants
+use Rattle.fold_sums.specs.ByKind.{row_kind, SumOrDifference, plus, less, fold_sum_or_difference, chain_of_both, both_outcome, fold_alone, row_of_both}
+
+-- The kind of an operator's row is one of the two.
+pub additive : (operator : Additive) → SumOrDifference (row_kind operator)
+additive Variants.Sum = plus
+additive Variants.Difference = less
 
 -- ---- what chain_calls::sum and chain_calls::difference answer on rows of chains: the chains need not be trimmed first
 both_as : {kind : ℕ} → SumOrDifference kind → (w : ℕ) (f f' g g' : List ℕ) → ((i : ℕ) → sum_at f i ≡ sum_at f' i) → ((i : ℕ) → sum_at g i ≡ sum_at g' i)

@@ -4,6 +4,8 @@ use Rattle.chain.specs.Chain.{words, trimmed}
 use Rattle.chain.specs.SumChain.{sum, difference}
 use Rattle.chain.specs.Answer.{Outcome, chain, unless_long, given}
 use Rattle.formula.specs.Tree.{Span}
+use Rattle.fold_sums.specs.declared.Additive.{Additive}
+use Rattle.fold_sums.specs.declared.Additive.TheVariants.{Sum, Difference}
 use Rattle.fold.specs.Folded.{Spans, Folded, sum_row, difference_row}
 use Rattle.fold.specs.Folding.{fold_sum, fold_difference, fold_minus}
 
@@ -11,6 +13,11 @@ use Rattle.fold.specs.Folding.{fold_sum, fold_difference, fold_minus}
 pub data SumOrDifference : ℕ → Type 0 where
   plus : SumOrDifference 3
   less : SumOrDifference 4
+
+-- The kind of an operator's row.
+abbrev pub row_kind : Additive → ℕ
+row_kind Sum = 3
+row_kind Difference = 4
 
 -- The rules of a sum, or those of a difference.
 abbrev pub fold_sum_or_difference : ℕ → ℕ → Spans → Folded → Folded → Folded

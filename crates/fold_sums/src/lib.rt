@@ -2,77 +2,89 @@
 // Minus is in `fold_minus`; which operator a node is, is decided in `compile`.
 #![tactic(auto)]
 
-ghost use Rattle.std.specs.Prelude.{◌≡◌, ◌&&◌, ◌≤◌, ◌<◌, ltb, length};
-ghost use Rattle.plan.specs.Measures.{plan_length, most_rows};
-ghost use Rattle.chain.specs.Answer.{answered};
-ghost use Rattle.plan.specs.Row.{kind, word_a, elements};
+ghost use Rattle.std.specs.Prelude.{◌≡◌, ◌&&◌, ◌≤◌, ◌<◌};
+ghost use Rattle.plan.specs.Measures.{most_rows};
+ghost use Rattle.chain.specs.Answer.{as_chain_answer, answered};
+ghost use Rattle.plan.specs.Row.{word_a, elements};
 ghost use Rattle.plan.specs.Plan.{row};
+ghost use Rattle.fold_operands.specs.OperandRows.{is_sum_row};
 ghost use Rattle.fold_operands.specs.Operands.{One, Two, Folds, FoldsBoth};
-ghost use Rattle.fold_sums.specs.ByKind.{SumOrDifference, fold_sum_or_difference, both_outcome, fold_alone};
+ghost use Rattle.fold_sums.specs.ByKind.{row_kind, fold_sum_or_difference, both_outcome, fold_alone};
 
-use chain::ChainAnswer;
+use chain::{Chain, Refusal};
 use fold_minus::fold_minus;
-use fold_operands::{append, is_constant, kind, length_of, put_sum};
+use fold_operands::{Pair, append, chain_in, is_constant, is_sum, put_sum};
 use fold_rows::moved_rows;
-use plan_rows::kinds::{PRODUCT_CHAIN, SUM};
+use plan::PlanWords;
+use plan_rows::kinds::{DIFFERENCE, SUM};
 
-// Both rows are constants or sum chains: kinds 0 and 1.
-fn both_sums(plan: &[u64], a: usize, b: usize) -> bool
-    requires plan_length_in_bounds { plan_length ≤ length plan.now }
+// The operators of this crate.
+#[derive(Clone, Copy)]
+pub enum Additive {
+    Sum,
+    Difference,
+}
+
+// The kind of the operator's row.
+impl From<Additive> for u64 {
+    ghost from_gives = { λ operator kind. kind ≡ row_kind operator };
+
+    fn from(operator: Additive) -> u64 {
+        match operator {
+            Additive::Sum => SUM,
+            Additive::Difference => DIFFERENCE,
+        }
+    }
+}
+
+// Both rows are constants or sum chains.
+fn both_sums(plan: &PlanWords, a: usize, b: usize) -> bool
     requires a_lt_most_rows { a < most_rows }
     requires b_lt_most_rows { b < most_rows }
-    ensures { result ≡ (ltb (kind (row plan.now a)) 2 && ltb (kind (row plan.now b)) 2) }
+    ensures { result ≡ (is_sum_row (row plan.now a) && is_sum_row (row plan.now b)) }
 {
-    if kind(plan, a) < PRODUCT_CHAIN {
-        return kind(plan, b) < PRODUCT_CHAIN;
-    }
-    false
+    is_sum(plan, a) && is_sum(plan, b)
 }
 
 // The chains of two rows, a constant standing as f0: "element by element", "and the same under -".
-fn chain_of_both(plan: &[u64], kind: u64, a: usize, b: usize) -> ChainAnswer
-    requires plan_length_in_bounds { plan_length ≤ length plan.now }
+fn chain_of_both(plan: &PlanWords, operator: Additive, a: usize, b: usize) -> Result<Chain, Refusal>
     requires a_lt_most_rows { a < most_rows }
     requires b_lt_most_rows { b < most_rows }
-    ensures { result ≡ answered (both_outcome 64 kind (elements (row plan.now a)) (word_a (row plan.now a))
+    ensures { as_chain_answer result ≡ answered (both_outcome 64 (row_kind operator) (elements (row plan.now a)) (word_a (row plan.now a))
         (elements (row plan.now b)) (word_a (row plan.now b))) }
 {
-    let f = fold_rows::elements(plan, a);
-    let k = length_of(plan, a);
-    let g = fold_rows::elements(plan, b);
-    let l = length_of(plan, b);
-    if kind == SUM {
-        return chain_calls::sum(f, k, g, l);
+    let f = chain_in(plan, a);
+    let g = chain_in(plan, b);
+    match operator {
+        Additive::Sum => chain_calls::sum(f, g),
+        Additive::Difference => chain_calls::difference(f, g),
     }
-    chain_calls::difference(f, k, g, l)
 }
 
 // The operand alone, behind the constant 0: "0+A: A", "0-A: as minus A".
-fn fold_alone(plan: &mut [u64], kind: u64, first: usize, end: usize) -> usize
-    requires plan_length_in_bounds { plan_length ≤ length plan.old }
+fn fold_alone(plan: &mut PlanWords, operator: Additive, first: usize, end: usize) -> usize
     requires end_lt_most_rows { end < most_rows }
     requires one { One plan.old first end }
-    ensures { Folds (fold_alone 64 kind) plan.old first end result plan.new }
+    ensures { Folds (fold_alone 64 (row_kind operator)) plan.old first end result plan.new }
 {
-    if kind == SUM {
-        return end;
+    match operator {
+        Additive::Sum => end,
+        Additive::Difference => fold_minus(plan, first, end),
     }
-    fold_minus(plan, first, end)
 }
 
-// The operand before row middle plus the one behind it, kind 3, or less it, kind 4: "C+S, S+C, S+S, and the same under -: element by
+// The operand before row middle plus the one behind it, or less it: "C+S, S+C, S+S, and the same under -: element by
 // element", "A+0, 0+A, A-0: A", "0-A: as minus A".
-pub fn fold_sum(plan: &mut [u64], kind: u64, left: usize, middle: usize, end: usize) -> usize
-    requires plan_length_in_bounds { plan_length ≤ length plan.old }
-    requires end_lt_most_rows { end < most_rows }
-    requires sum_or_difference { SumOrDifference kind }
-    requires two { Two plan.old left middle end }
-    ensures { FoldsBoth (fold_sum_or_difference 64 kind) plan.old left middle end result plan.new }
+pub fn fold_sum(plan: &mut PlanWords, operator: Additive, pair: Pair) -> usize
+    requires end_lt_most_rows { pair.end < most_rows }
+    requires two { Two plan.old pair.left pair.middle pair.end }
+    ensures { FoldsBoth (fold_sum_or_difference 64 (row_kind operator)) plan.old pair.left pair.middle pair.end result plan.new }
 {
+    let Pair { left, middle, end } = pair;
     let left_root = middle - 1;
     let right_root = end - 1;
     if both_sums(plan, left_root, right_root) {
-        let both = chain_of_both(plan, kind, left_root, right_root);
+        let both = chain_of_both(plan, operator, left_root, right_root).unwrap();
         put_sum(plan, left, both);
         return left + 1;
     }
@@ -81,8 +93,9 @@ pub fn fold_sum(plan: &mut [u64], kind: u64, left: usize, middle: usize, end: us
     }
     if is_constant(plan, left_root, 0) {
         moved_rows::move_down(plan, middle, end);
-        return fold_alone(plan, kind, left, right_root);
+        return fold_alone(plan, operator, left, right_root);
     }
+    let kind = u64::from(operator);
     append(plan, end, kind, left_root as u64, right_root as u64);
     end + 1
 }

@@ -3,3 +3,4 @@ pub mod DigitLists
 pub mod TextMarks
 pub mod Spans
 pub mod Places
+pub mod Refused

@@ -6,4 +6,5 @@ pub mod Marks
 pub mod Grammar
 pub mod Value
 pub mod Words
+pub mod Answer
 pub mod Refusals

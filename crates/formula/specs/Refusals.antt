@@ -1,7 +1,7 @@
 -- Which refusal a text gets, by 01's table: every fault of the text, and the first number that applies, leftmost.
 -- None of it mentions a grid. The width w sets the largest number, 2^w - 1; the box has w = 64.
 use Rattle.std.specs.Prelude.{◌≡◌, true, cond, ◌⊎◌, List, [], ◌∷◌, ◌++◌, ℕ, suc, ◌+◌, ◌%◌, ◌^◌, ◌≤◌, ◌<◌, eqb, length, get_or, take, drop}
-use Rattle.formula.specs.declared.ReadAnswer.{ReadAnswer}
+use Rattle.formula.specs.Answer.{ReadAnswer}
 use Rattle.formula.specs.Bytes.{open_bracket, close_bracket}
 use Rattle.formula.specs.Tree.{Span, Tree, number, sum, difference, product, minus, literal_power, raise, nodes, holds_x}
 use Rattle.formula.specs.Grammar.{Formula}

@@ -1,6 +1,9 @@
 -- The words of a tree: "the node count, then two words a node in postfix order, left operand first", in 257 words. What is quoted here is
 -- document 02's, its request Eight, which has a call read a text into a lent tree; 01 has the nodes and their limit.
-use Rattle.std.specs.Prelude.{List, [], ◌∷◌, ◌++◌, ℕ, ◌+◌, ◌-◌, ◌*◌, length, replicate}
+use Rattle.std.specs.Prelude.{◌≡◌, Result, MatchResult, List, [], ◌∷◌, ◌++◌, ℕ, ◌+◌, ◌-◌, ◌*◌, ◌<◌, length, replicate}
+use Rattle.formula.specs.declared.UnknownKind.{UnknownKind}
+use Rattle.formula.specs.declared.NodeKind.{NodeKind}
+use Rattle.formula.specs.declared.NodeKind.TheVariants.{Number, Variable, Sum, Difference, Product, Minus, LiteralPower, Raise}
 use Rattle.formula.specs.Tree.{Tree, number, variable, sum, difference, product, minus, literal_power, raise, nodes}
 
 -- 01's 128 nodes at most, "two words a node", behind the node count: "a lent tree of 257 words".
@@ -27,3 +30,17 @@ node_words (raise s a p b) = node_words a ++ node_words b ++ 8 ∷ 0 ∷ []
 -- "The rest of the 257 words are 0."
 abbrev pub tree_words : Tree → List ℕ
 tree_words t = nodes t ∷ node_words t ++ replicate (nodes_length - length (node_words t)) 0
+
+-- A kind's number, and what a number is read as: the kind of that number; 2 and from 9 on there is none.
+abbrev pub kind_number : NodeKind → ℕ
+kind_number Number = 0
+kind_number Variable = 1
+kind_number Sum = 3
+kind_number Difference = 4
+kind_number Product = 5
+kind_number Minus = 6
+kind_number LiteralPower = 7
+kind_number Raise = 8
+
+abbrev pub KindOf : ℕ → Result NodeKind UnknownKind → Type 0
+KindOf n r = MatchResult r (λ kind. kind_number kind ≡ n) (λ unknown. (unknown.0 ≡ n) × (n < 9 → n ≡ 2))

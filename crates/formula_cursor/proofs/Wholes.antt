@@ -7,7 +7,7 @@ use native.Mathlib.Omega.{arith}
 use lib.Dec.{leb}
 use lib.ListN.{length}
 use borrow.Author.Tests.{leb-true, leb-false}
-use Rattle.formula_scan.specs.declared.Found.{Found}
+use Rattle.formula_scan.specs.Fields.{Found}
 use Rattle.formula.specs.Tree.{Tree}
 use Rattle.formula.specs.Grammar.{Formula}
 use Rattle.formula.specs.Refusals.{TooDeep}
@@ -17,21 +17,12 @@ use Rattle.formula_scan.proofs.Ways.{got, lost, regained, WholeBracket}
 use Rattle.formula_scan.proofs.Reaching.{complete}
 use Rattle.formula_scan.proofs.GrammarScan.{unambiguous, stops_at, stops-unique}
 use Rattle.formula_scan.proofs.Judging.{scanned-short, whole_formula, judged_stop}
-use Rattle.formula_cursor.specs.Whole.{Scanned, if_ended, WholeRead}
+use Rattle.formula_cursor.specs.Whole.{WholeRead}
 
 -- No word is written where there is no tree.
 pub none_written : {w : ℕ} (l : List ℕ) (r : Found) (now : List ℕ) → WholeRead w l [] r now → length now ≡ 0 → WholeRead w l [] r []
 none_written l r [] read e = read
 none_written l r (a ∷ now) read e = absurd (omega arith)
-
--- A cursor made at the start of a text and moved past the sum at its place reads the whole text.
-pub by_cursor : {w : ℕ} {l m n out now : List ℕ} {p k : ℕ} {sum r : Found} → m ≡ l → p ≡ 0 → Scanned w m p out sum now → n ≡ m → k ≡ sum.at → r ≡ if_ended n k sum
-    → WholeRead w l out r now
-by_cursor {w} {m = m} {out = out} {now = now} {sum = sum} text start scanned same reached ended = record {
-  sum = sum;
-  scanned = subst (λ t. Scanned w t 0 out sum now) text (subst (λ q. Scanned w m q out sum now) start scanned);
-  is = ended ∙ ap₂ (λ t q. if_ended t q sum) (same ∙ text) reached;
-}
 
 -- A text that is read as a tree does not stop.
 never : {o : Outcome} {t : Tree} {p : ℕ} → o ≡ reads t → o ≡ stops p → ⊥
@@ -77,6 +68,14 @@ module _ {w : ℕ} {l out : List ℕ} {r : Found} {now : List ℕ} (whole : Whol
       go : Way w l out r now → SumRead w l 0 0 no_fault out r now
       go (short p is stopped) = absurd (never (complete formula) stopped)
       go (through tree h) = regained tree
+
+  -- A formula is read to its end.
+  pub never_lost : {t : Tree} → Formula l t → r.ok ≡ false → ⊥
+  never_lost formula none = go (way whole)
+    where
+      go : Way w l out r now → ⊥
+      go (short p is stopped) = never (complete formula) stopped
+      go (through tree h) = true≢false (sym (ap (λ (f : Found). f.ok) tree.is) ∙ none)
 
 -- What is found of a whole text is one thing alone, whatever it is written over.
 pub whole_exact : {w : ℕ} {l out over : List ℕ} {r s : Found} {now then : List ℕ} → WholeRead w l out r now → WholeRead w l over s then → r ≡ s

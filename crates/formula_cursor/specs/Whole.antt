@@ -1,6 +1,6 @@
 -- What is found of a text from a place on, and of a whole text. What a sum reader finds is in `formula_scan`.
 use Rattle.std.specs.Prelude.{◌≡◌, cond, ◌&&◌, List, ℕ, leb, length}
-use Rattle.formula_scan.specs.declared.Found.{Found}
+use Rattle.formula_scan.specs.Fields.{Found}
 use Rattle.formula_scan.specs.Readers.{no_fault, stopping, SumRead}
 
 -- What is found of the sum that begins at a place, with no node and no fault before it, and what is written of it over the words `out`.

@@ -4,44 +4,15 @@
 
 pub mod faults;
 
-ghost use Rattle.std.specs.Prelude.{◌≡◌, true, false, cond, ◌||◌, ◌+◌, ◌-◌, ◌^◌, ◌≤◌, ◌<◌, eqb};
+ghost use Rattle.std.specs.Prelude.{◌≡◌, false, cond, ◌||◌, ◌+◌, ◌-◌, ◌^◌, ◌≤◌, ◌<◌, eqb};
 ghost use Rattle.formula.specs.Bytes.{plus_sign};
 ghost use Rattle.formula.specs.Tree.{span};
-ghost use Rattle.formula_scan.specs.Readers.{put, wrote_minus, stopping, finding, with_node, both_found, literal_found, product_found, sum_found};
+ghost use Rattle.formula.specs.Words.{kind_number};
+ghost use Rattle.formula_scan.specs.Fields.{as_parsed, as_left, as_numeral};
+ghost use Rattle.formula_scan.specs.Readers.{put, wrote_minus, finding, with_node, both_found, literal_found, product_found, sum_found};
 
-use formula::MOST_NODES;
-use formula_scan::{Found, Left, Numeral, PLAIN_WORDS, SPANNED_WORDS};
-
-// The kinds of nodes.
-pub const NUMBER: u64 = 0;
-
-pub const VARIABLE: u64 = 1;
-
-const SUM: u64 = 3;
-
-const DIFFERENCE: u64 = 4;
-
-const PRODUCT: u64 = 5;
-
-const MINUS: u64 = 6;
-
-const LITERAL_POWER: u64 = 7;
-
-pub const RAISE: u64 = 8;
-
-// Nothing: no formula goes on past a place.
-pub fn stopped(at: usize) -> Found
-    ensures { result ≡ stopping at }
-{
-    Found {
-        ok: false,
-        variable: false,
-        odd: 0,
-        at,
-        nodes: 0,
-        fault: 0,
-    }
-}
+use formula::{MOST_NODES, NodeKind};
+use formula_scan::{Decimal, LeftOperand, PLAIN_WORDS, Parsed, SPANNED_WORDS};
 
 // Puts node n into the lent tree: two words for each node, or four with its span, where each has room for them.
 fn put(tree: &mut [u64], n: usize, kind: u64, word: u64, first: usize, end: usize)
@@ -66,90 +37,73 @@ fn put(tree: &mut [u64], n: usize, kind: u64, word: u64, first: usize, end: usiz
     tree[start + 3] = end as u64;
 }
 
-// Puts a node whose text begins at `first` behind the nodes so far and counts it. The rest that is found of its tree is given.
-pub fn noted(tree: &mut [u64], kind: u64, word: u64, first: usize, found: Found) -> Found
-    requires { found.nodes < 2 ^ 63 }
-    ensures value { result ≡ with_node found }
-    ensures tree_after { tree.new ≡ put tree.old found.nodes kind word (span first found.at) }
+// Puts a node whose text begins at `first` behind the nodes so far and counts it. The rest that is noted of its tree is given.
+// Kept: any number is a kind here, since a parameter of a call between crates keeps all its values; the readers pass a NodeKind's number.
+pub fn noted(tree: &mut [u64], kind: u64, word: u64, first: usize, parsed: Parsed) -> Parsed
+    requires { parsed.nodes < 2 ^ 63 }
+    ensures value { as_parsed result ≡ with_node (as_parsed parsed) }
+    ensures tree_after { tree.new ≡ put tree.old parsed.nodes kind word (span first parsed.at) }
 {
-    put(tree, found.nodes, kind, word, first, found.at);
-    Found {
-        ok: true,
-        variable: found.variable,
-        odd: found.odd,
-        at: found.at,
-        nodes: found.nodes + 1,
-        fault: found.fault,
+    put(tree, parsed.nodes, kind, word, first, parsed.at);
+    Parsed {
+        nodes: parsed.nodes + 1,
+        ..parsed
     }
 }
 
-fn either(a: bool, b: bool) -> bool
-    ensures { result ≡ (a || b) }
+// What is noted of two operands, one after the other: whether x stands in the left one, the right one, and the oddness of the whole.
+pub fn both(variable: bool, right: Parsed, odd: u8) -> Parsed
+    ensures { as_parsed result ≡ both_found variable (as_parsed right) odd }
 {
-    if a {
-        return true;
-    }
-    b
-}
-
-// What is found of two operands, one after the other: whether x stands in the left one, the right one, and the oddness of the whole.
-pub fn both(variable: bool, right: Found, odd: u8) -> Found
-    ensures { result ≡ both_found variable right odd }
-{
-    Found {
-        ok: true,
-        variable: either(variable, right.variable),
+    Parsed {
+        variable: variable || right.variable,
         odd,
-        at: right.at,
-        nodes: right.nodes,
-        fault: right.fault,
+        ..right
     }
 }
 
 // A minus node for each sign from place `at` on, side by side before the power's first byte, the last one first.
-pub fn negated(tree: &mut [u64], at: usize, first: usize, power: Found) -> Found
-    requires ok_value { power.ok ≡ true }
+pub fn negated(tree: &mut [u64], at: usize, first: usize, power: Parsed) -> Parsed
     requires first_bound { power.nodes + first < 2 ^ 63 }
     requires at_le_first { at ≤ first }
-    ensures value { result ≡ finding power.variable power.odd power.at (power.nodes + (first - at)) power.fault }
+    ensures value { as_parsed result ≡ finding power.variable power.odd power.at (power.nodes + (first - at)) power.fault }
     ensures tree_after { tree.new ≡ wrote_minus (first - at) first power.at power.nodes tree.old }
 {
-    let mut found = power;
-    let mut place = first;
-    while at < place {
-        place -= 1;
-        let more = noted(tree, MINUS, 0, place, found);
-        found = more;
+    let mut negative = power;
+    for place in (at..first).rev() {
+        negative = noted(tree, u64::from(NodeKind::Minus), 0, place, negative);
     }
-    found
+    negative
 }
 
-// A literal power of what was found.
-pub fn literal_power(tree: &mut [u64], first: usize, base: Found, number: Numeral) -> Found
+// A literal power of what was read. An exponent that is over stands in the tree as the largest word.
+pub fn literal_power(tree: &mut [u64], first: usize, base: Parsed, number: Decimal) -> Parsed
     requires nodes_bound { base.nodes < 2 ^ 63 }
     requires at_bound { base.at + 1 < 2 ^ 63 }
-    ensures value { result ≡ literal_found base number }
-    ensures tree_after { tree.new ≡ put tree.old base.nodes 7 number.value (span first number.at) }
+    ensures value { as_parsed result ≡ literal_found (as_parsed base) (as_numeral number) }
+    ensures tree_after { tree.new ≡ put tree.old base.nodes 7 (as_numeral number).value (span first number.at) }
 {
-    let fault = faults::lesser(base.fault, faults::literal_fault(number, base.at + 1));
-    let odd = faults::literal_odd(base.odd, number);
-    let whole = Found {
-        ok: true,
-        variable: base.variable,
-        odd,
+    let whole = Parsed {
+        odd: faults::literal_odd(base.odd, number),
         at: number.at,
-        nodes: base.nodes,
-        fault,
+        fault: base.fault.min(faults::literal_fault(number, base.at + 1)),
+        ..base
     };
-    noted(tree, LITERAL_POWER, number.value, first, whole)
+    let exponent = number.value.unwrap_or(u64::MAX);
+    noted(
+        tree,
+        u64::from(NodeKind::LiteralPower),
+        exponent,
+        first,
+        whole,
+    )
 }
 
 // Nothing read yet.
-pub fn starting(at: usize, nodes: usize, fault: u64) -> Found
-    ensures { result ≡ finding false 0 at nodes fault }
+pub fn starting(at: usize, nodes: usize, fault: u64) -> Parsed
+    ensures { as_parsed result ≡ finding false 0 at nodes fault }
 {
-    Found {
-        ok: true,
+    Parsed {
         variable: false,
         odd: 0,
         at,
@@ -159,67 +113,57 @@ pub fn starting(at: usize, nodes: usize, fault: u64) -> Found
 }
 
 // The same, past the byte behind it: one that joins it to what follows, or the ) of its brackets.
-pub fn beyond(found: Found) -> Found
-    requires { found.at < 2 ^ 63 }
-    ensures { result ≡ finding found.variable found.odd (found.at + 1) found.nodes found.fault }
+pub fn beyond(parsed: Parsed) -> Parsed
+    requires { parsed.at < 2 ^ 63 }
+    ensures { as_parsed result ≡ finding parsed.variable parsed.odd (parsed.at + 1) parsed.nodes parsed.fault }
 {
-    Found {
-        ok: true,
-        variable: found.variable,
-        odd: found.odd,
-        at: found.at + 1,
-        nodes: found.nodes,
-        fault: found.fault,
+    Parsed {
+        at: parsed.at + 1,
+        ..parsed
     }
+}
+
+// Left and right joined by a node of that kind and oddness, or right alone where there is no sign.
+fn joined(tree: &mut [u64], left: LeftOperand, right: Parsed, kind: NodeKind, odd: u8) -> Parsed
+    requires { right.nodes < 2 ^ 63 }
+    ensures value { as_parsed result ≡ cond (eqb (as_left left).sign 0) (as_parsed right) (with_node (both_found left.variable (as_parsed right) odd)) }
+    ensures tree_after { tree.new ≡ cond (eqb (as_left left).sign 0) tree.old (put tree.old right.nodes (kind_number kind) 0 (span left.first right.at)) }
+{
+    if left.sign.is_none() {
+        return right;
+    }
+    noted(
+        tree,
+        u64::from(kind),
+        0,
+        left.first,
+        both(left.variable, right, odd),
+    )
 }
 
 // The product of left and right, or right alone where there is no sign.
-pub fn joined_product(tree: &mut [u64], left: Left, right: Found) -> Found
+pub fn joined_product(tree: &mut [u64], left: LeftOperand, right: Parsed) -> Parsed
     requires nodes_bound { right.nodes < 2 ^ 63 }
     requires odd_bound { left.odd < 2 }
     requires odd_bound_2 { right.odd < 2 }
-    ensures value { result ≡ cond (eqb left.sign 0) right (product_found left.variable left.odd right) }
-    ensures tree_after { tree.new ≡ cond (eqb left.sign 0) tree.old (put tree.old right.nodes 5 0 (span left.first right.at)) }
+    ensures value { as_parsed result ≡ cond (eqb (as_left left).sign 0) (as_parsed right) (product_found left.variable left.odd (as_parsed right)) }
+    ensures tree_after { tree.new ≡ cond (eqb (as_left left).sign 0) tree.old (put tree.old right.nodes 5 0 (span left.first right.at)) }
 {
-    if left.sign == 0 {
-        return right;
-    }
-    let odd = left.odd * right.odd;
-    noted(
-        tree,
-        PRODUCT,
-        0,
-        left.first,
-        both(left.variable, right, odd),
-    )
+    joined(tree, left, right, NodeKind::Product, left.odd * right.odd)
 }
 
 // The sum or difference of left and right, by the sign between them, or right alone where there is none.
-pub fn joined_sum(tree: &mut [u64], left: Left, right: Found) -> Found
+pub fn joined_sum(tree: &mut [u64], left: LeftOperand, right: Parsed) -> Parsed
     requires nodes_bound { right.nodes < 2 ^ 63 }
     requires odd_bound { left.odd < 2 }
     requires odd_bound_2 { right.odd < 2 }
-    ensures value { result ≡ cond (eqb left.sign 0) right (sum_found left.variable left.odd right) }
-    ensures tree_after { tree.new ≡ cond (eqb left.sign 0) tree.old (put tree.old right.nodes (cond (eqb left.sign plus_sign) 3 4) 0 (span left.first right.at)) }
+    ensures value { as_parsed result ≡ cond (eqb (as_left left).sign 0) (as_parsed right) (sum_found left.variable left.odd (as_parsed right)) }
+    ensures tree_after { tree.new ≡ cond (eqb (as_left left).sign 0) tree.old (put tree.old right.nodes (cond (eqb (as_left left).sign plus_sign) 3 4) 0 (span left.first right.at)) }
 {
-    if left.sign == 0 {
-        return right;
-    }
-    let odd = (left.odd + right.odd) % 2;
-    noted(
-        tree,
-        sum_kind(left.sign),
-        0,
-        left.first,
-        both(left.variable, right, odd),
-    )
-}
-
-fn sum_kind(sign: u8) -> u64
-    ensures { result ≡ cond (eqb sign plus_sign) 3 4 }
-{
-    if sign == b'+' {
-        return SUM;
-    }
-    DIFFERENCE
+    let kind = if left.sign == Some(b'+') {
+        NodeKind::Sum
+    } else {
+        NodeKind::Difference
+    };
+    joined(tree, left, right, kind, (left.odd + right.odd) % 2)
 }

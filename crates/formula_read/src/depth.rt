@@ -1,36 +1,23 @@
 // How deep the round brackets of a text go, in the grammar or not: opened ones, closed ones subtracted.
 // What stands between the brackets is for `formula_readers`.
-ghost use Rattle.std.specs.Prelude.{◌≡◌, cond, ◌+◌, ◌^◌, ◌<◌, eqb};
+ghost use Rattle.std.specs.Prelude.{◌<◌, length, unwrap_or, IfSome};
 ghost use Rattle.formula_scan.specs.Readers.{DeepAt};
 
 const DEEPEST: usize = 32;
 
-// One more if the byte is the one that is counted.
-fn counted(byte: u8, which: u8, count: usize) -> usize
-    requires { count < 2 ^ 63 }
-    ensures { result ≡ cond (eqb byte which) (count + 1) count }
-{
-    if byte == which {
-        return count + 1;
-    }
-    count
-}
-
-// The place of the first ( that opens more than 32 brackets, or the text's length.
-pub fn deep_place(text: &[u8]) -> usize
-    ensures { DeepAt text.now result }
+// The place of the first ( that opens more than 32 brackets, if one does.
+pub fn deep_place(text: &[u8]) -> Option<usize>
+    ensures first { DeepAt text.now (unwrap_or result (length text.now)) }
+    ensures inside { IfSome result (λ place. place < length text.now) }
 {
     let mut opened = 0;
     let mut closed = 0;
-    let mut i = 0;
-    while i < text.len() {
-        let byte = text[i];
-        opened = counted(byte, b'(', opened);
-        closed = counted(byte, b')', closed);
+    for (place, &byte) in text.iter().enumerate() {
+        opened += usize::from(byte == b'(');
+        closed += usize::from(byte == b')');
         if DEEPEST + closed < opened {
-            return i;
+            return Some(place);
         }
-        i += 1;
     }
-    i
+    None
 }

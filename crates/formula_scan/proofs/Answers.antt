@@ -7,7 +7,7 @@ use mathlib.Core.List.{List, ◌++◌}
 use Prim.Native.Nat.{ℕ, ◌%◌, ◌^◌, ◌≤◌, ◌<◌}
 use native.Mathlib.Omega.{arith}
 use lib.ListN.{drop}
-use Rattle.formula.specs.declared.ReadAnswer.{ReadAnswer}
+use Rattle.formula.specs.Answer.{ReadAnswer}
 use Rattle.formula.specs.Tree.{Span, Tree, number, literal_power, nodes, holds_x}
 use Rattle.formula.specs.Value.{value_for}
 use Rattle.formula.specs.Refusals.{Part, number-over, exponent-over, too_many, x_in_base, even_base, Refused, Accepted, Reading, too_short, refused, accepted}

@@ -103,7 +103,3 @@ module _ (l : List ℕ) (i opened closed more less : ℕ) (so : DeepSoFar l i op
 
 pub deep_nowhere : (l : List ℕ) (i opened closed : ℕ) → DeepSoFar l i opened closed → length l ≤ i → DeepAt l i
 deep_nowhere l i opened closed so h = record { within = so.within; clear = so.clear; deep = λ p. absurd (omega arith) }
-
-pub counted-most : (t : Bool) (n : ℕ) → cond t (n + 1) n ≤ n + 1
-counted-most true n = omega arith
-counted-most false n = omega arith

@@ -1,6 +1,6 @@
 -- The end of reading: the least fault decides, and an accepted text's tree is what is written.
 use mathlib.Core.Path.{◌≡◌, refl, sym, ap, ap₂, subst, ◌∙◌}
-use mathlib.Core.Bool.{cond}
+use mathlib.Core.Bool.{Bool, true, false, cond}
 use mathlib.Core.List.{List, ◌∷◌, ◌++◌, append-nil}
 use Prim.Native.Nat.{ℕ, suc, ◌/◌, ◌%◌, ◌≤◌, ◌<◌, min}
 use native.Mathlib.Nat.{zero-add}
@@ -8,19 +8,38 @@ use native.Mathlib.Omega.{arith}
 use lib.Dec.{ltb}
 use lib.ListN.{length, take, drop, set, replicate, length-replicate, drop_of_length-le, take-append-drop}
 use lib.Seq.{take-length, length-take-le}
-use Rattle.formula_scan.specs.declared.Found.{Found}
+use borrow.Author.Tests.{ne_eqb, ltb-true, ltb-false}
+use Rattle.std.specs.Prelude.{Ok}
+use Rattle.formula_scan.specs.Fields.{Found}
 use Rattle.formula.specs.Tree.{Tree, nodes}
 use Rattle.formula.specs.Words.{tree_words, tree_length, most_nodes}
-use Rattle.formula.specs.declared.ReadAnswer.{ReadAnswer}
-use Rattle.formula.specs.Refusals.{TooDeep, Accepted, Reading, refused, accepted}
-use Rattle.formula_scan.specs.Readers.{fault_code, no_fault, code, wrote, spanned_tree, spanned_words, SumRead, over_words, ReadOver, refused_over, accepted-over, Judged, refuses, accepts}
+use Rattle.formula.specs.Answer.{ReadAnswer, as_read_answer}
+use Rattle.formula.specs.Grammar.{Formula}
+use Rattle.formula.specs.Refusals.{TooDeep, Fault, too_long, too_deep, not-grammar, number-over, exponent-number-over, exponent-over, too_many, x_in_base, even_base, Refused, Accepted, Reading, refused, accepted}
+use Rattle.formula_scan.specs.Readers.{fault_code, no_fault, code, noted_refusal, wrote, spanned_tree, spanned_words, SumRead, over_words, ReadOver, refused_over, accepted-over, Judged, refuses, accepts}
 use Rattle.formula_scan.proofs.Ways.{WholeBracket}
 use Rattle.formula_scan.proofs.Judging.{whole_formula, formula_got, fault_number}
 use Rattle.formula_scan.proofs.Written.{tree-written, spanned-written}
-use Rattle.formula_scan.proofs.Faults.{tree-refused, tree-accepted}
+use Rattle.formula_scan.proofs.Faults.{late, tree-refused, tree-accepted}
 use Rattle.formula_scan.proofs.Answers.{accepted_fits}
 
 -- ---- 5 to 8
+-- A fault of 5 to 8 is told as its refusal, and any greater number as none.
+fault_told : {w : ℕ} {s : List ℕ} {n p : ℕ} → Fault w s n p → 5 ≤ n → as_read_answer (noted_refusal n p) ≡ record { number = n; place = p }
+fault_told (too_long h) low = absurd (omega arith)
+fault_told (too_deep h) low = absurd (omega arith)
+fault_told (not-grammar h) low = absurd (omega arith)
+fault_told (number-over a b c) low = refl
+fault_told (exponent-number-over a b c) low = refl
+fault_told (exponent-over a b c) low = refl
+fault_told (too_many a b) low = refl
+fault_told (x_in_base a b c) low = refl
+fault_told (even_base a b c) low = refl
+
+none_told : (n p : ℕ) → 8 < n → noted_refusal n p ≡ Ok tt
+none_told n p h =
+    rw (ne_eqb n 5 (λ e. omega arith), ne_eqb n 6 (λ e. omega arith), ne_eqb n 7 (λ e. omega arith), ne_eqb n 8 (λ e. omega arith)) refl
+
 module _ (l : List ℕ) (short : length l ≤ 1024) (flat : (q : ℕ) → TooDeep l q → ⊥) (out : List ℕ) (r : Found) (now : List ℕ)
     (whole : WholeBracket 64 l 0 0 no_fault out r now) (ends : length l ≤ r.at) (c : ℕ)
     (least : c ≡ min r.fault (cond (ltb most_nodes r.nodes) (fault_code 7 0) no_fault)) where
@@ -29,12 +48,22 @@ module _ (l : List ℕ) (short : length l ≤ 1024) (flat : (q : ℕ) → TooDee
       least
       ∙ ap₂ (λ f k. min f (cond (ltb most_nodes k) (fault_code 7 0) no_fault)) (ap (λ (x : Found). x.fault) whole.is) (whole.counted ∙ zero-add (nodes whole.t))
 
-  pub judged_fault : c < no_fault → Judged 64 l (record { number = c / 2048; place = c % 2048 })
-  judged_fault h =
-      rw coded (refuses (tree-refused 64 (omega arith) l whole.t (whole_formula l no_fault out r now whole ends) short flat (omega (arith, coded))))
+  -- The code decides.
+  pub judged_code : Judged 64 l (as_read_answer (noted_refusal (c / 2048) (c % 2048)))
+  judged_code = go (ltb c no_fault) refl
+    where
+      means : Formula l whole.t
+      means = whole_formula l no_fault out r now whole ends
 
-  pub judged-faultless : no_fault ≤ c → Judged 64 l (record { number = 0; place = 0 })
-  judged-faultless h = accepts (tree-accepted 64 (omega arith) l whole.t (whole_formula l no_fault out r now whole ends) short flat (omega (arith, coded)))
+      go : (b : Bool) → ltb c no_fault ≡ b → Judged 64 l (as_read_answer (noted_refusal (c / 2048) (c % 2048)))
+      go true e =
+          let h = ltb-true c no_fault e in
+          let refusal : Refused 64 l (c / 2048) (c % 2048) = rw coded (tree-refused 64 (omega arith) l whole.t means short flat (omega (arith, coded))) in
+          subst (Judged 64 l) (sym (fault_told refusal.applies (late 64 (omega arith) l whole.t means short flat refusal.applies))) (refuses refusal)
+      go false e =
+          let h = ltb-false c no_fault e in
+          subst (λ a. Judged 64 l (as_read_answer a)) (sym (none_told (c / 2048) (c % 2048) (omega arith)))
+          (accepts (tree-accepted 64 (omega arith) l whole.t means short flat (omega (arith, coded))))
 
 -- ---- the words of an accepted text
 module _ (l zeros part : List ℕ) (k : ℕ) (r : Found) (t : Tree) (clear : zeros ≡ replicate (suc k) 0)

@@ -257,7 +257,8 @@ module _ (w : ℕ) (pos : 0 < w) (s : List ℕ) (t : Tree) (M : Formula s t) (sh
       go (n, p, F, e) = let small = fault_small short F in subst₂ (Fault w s) (omega arith) (omega arith) F
 
   module _ (shallow : (p : ℕ) → TooDeep s p → ⊥) where
-    late : {m q : ℕ} → Fault w s m q → 5 ≤ m
+    -- It is 5 or more in a formula whose brackets are not too deep.
+    pub late : {m q : ℕ} → Fault w s m q → 5 ≤ m
     late (too_long h) = omega arith
     late (too_deep {p} h) = absurd (shallow p h)
     late (not-grammar h) = absurd (h.outside t M)

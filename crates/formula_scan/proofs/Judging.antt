@@ -9,7 +9,7 @@ use lib.Dec.{ltb}
 use lib.ListN.{length, get_or, drop}
 use lib.Seq.{drop-length}
 use borrow.Author.Tests.{ltb-true, ltb-false}
-use Rattle.formula_scan.specs.declared.Found.{Found}
+use Rattle.formula_scan.specs.Fields.{Found}
 use Rattle.formula.specs.Tree.{span, Tree, nodes}
 use Rattle.formula.specs.Grammar.{Formula}
 use Rattle.formula.specs.Refusals.{TooDeep, Fault, too_long, too_deep, not-grammar, number-over, exponent-number-over, exponent-over, too_many, x_in_base, even_base}

@@ -1,19 +1,21 @@
 -- What fits the packed word: a stop, since the scan stops inside the text, and what is found of a text that packs.
-use mathlib.Core.Path.{◌≡◌, refl, sym, ap, ap₂, subst, ◌∙◌}
+use mathlib.Core.Path.{◌≡◌, refl, sym, ap, subst, ◌∙◌}
 use mathlib.Core.Bool.{Bool, true, false}
 use mathlib.Core.List.{List, [], ◌∷◌}
-use Prim.Native.Nat.{ℕ, suc, ◌+◌, ◌*◌, ◌/◌, ◌%◌, ◌≤◌, ◌<◌, min}
+use Prim.Native.Nat.{ℕ, suc, ◌+◌, ◌≤◌, ◌<◌, min}
 use native.Mathlib.Omega.{arith}
-use lib.Dec.{eqb, ltb}
+use lib.Dec.{ltb}
 use lib.ListN.{length, drop, length-drop}
 use borrow.Author.Tests.{ltb-true, ltb-false}
-use Rattle.formula_scan.specs.declared.Found.{Found}
-use Rattle.formula.specs.declared.ReadAnswer.{ReadAnswer}
+use Rattle.std.specs.Prelude.{Result, Ok, Err}
+use Rattle.formula_scan.specs.declared.Parsed.{Parsed}
+use Rattle.formula_scan.specs.Fields.{Found, as_found}
+use Rattle.formula.specs.Answer.{ReadAnswer}
 use Rattle.formula.specs.Refusals.{too_long}
 use Rattle.formula.specs.Tree.{Tree, number, variable, sum, difference, product, minus, literal_power, raise, holds_x}
 use Rattle.formula_scan.specs.Scan.{Byte, plus_byte, minus_byte, star_byte, caret_byte, open_byte, close_byte, x_byte, zero_byte, digit_byte, other_byte, byte_of, Piece, number_to, literal_to, no_sum, Level, level, Outer, bottom, in_brackets, in_exponent, State, operand, in_number, atomed, after_caret, in_literal, powered, stopped, closed, after_power, after_atom, after_digit, after_literal_digit, before_operand, before_exponent, step, reads, stops, ended, ending, run}
-use Rattle.formula_scan.specs.Readers.{fault_places, waiting, parity, base_fault, faulted, stopping, fails, SumRead, ProductRead, Judged, refuses, accepts}
-use Rattle.formula_scan.specs.Packing.{fault_codes, flags, flag, left_of, unpacked, Packable, Packs}
+use Rattle.formula_scan.specs.Readers.{fault_places, parity, base_fault, faulted, stopping, fails, SumRead, ProductRead, Judged, refuses, accepts}
+use Rattle.formula_scan.specs.Packing.{Tells, Packable, Packs}
 use Rattle.formula_scan.proofs.Judging.{fault_number}
 use Rattle.formula_scan.proofs.Ways.{Got, lost, got_odd, got_few, ProductSoFar, SumSoFar}
 
@@ -153,38 +155,6 @@ run_past S at [] h e = omega (arith, past_end at S h e)
 run_past S at (c ∷ s) h e = omega (arith, run_past (step S at (byte_of c)) (suc at) s (past-step at S (byte_of c) h) e)
 
 -- ---- what is found packs
-same_found : {f g : Found} → f.ok ≡ g.ok → f.variable ≡ g.variable → f.odd ≡ g.odd → f.at ≡ g.at → f.nodes ≡ g.nodes → f.fault ≡ g.fault → f ≡ g
-same_found {f} {g} a b c d e h =
-    ap₂ (λ x y. record { ok = x; variable = y; odd = f.odd; at = f.at; nodes = f.nodes; fault = f.fault }) a b
-    ∙ ap₂ (λ x y. record { ok = g.ok; variable = g.variable; odd = x; at = y; nodes = f.nodes; fault = f.fault }) c d
-    ∙ ap₂ (λ x y. record { ok = g.ok; variable = g.variable; odd = g.odd; at = g.at; nodes = x; fault = y }) e h
-
-flag_small : (b : Bool) → flag b < 2
-flag_small true = omega arith
-flag_small false = omega arith
-
-flag-read : (b : Bool) (n : ℕ) → n ≡ flag b → eqb n 1 ≡ b
-flag-read true n e = ap (λ k. eqb k 1) e
-flag-read false n e = ap (λ k. eqb k 1) e
-
--- The word made of the fields of what is found gives them back.
-pub unpacked_packed : (f : Found) (word : ℕ) → Packable f
-    → word ≡ ((f.nodes * fault_codes + f.fault) * fault_places + f.at) * flags + (flag f.ok + 2 * flag f.variable + 4 * f.odd)
-    → unpacked word ≡ f
-unpacked_packed f word packs e =
-    let tree = flag_small f.ok in
-    let letter = flag_small f.variable in
-    same_found (flag-read f.ok (word % 2) (omega arith)) (flag-read f.variable (word / 2 % 2) (omega arith)) (omega arith) (omega arith) (omega arith) (omega arith)
-
--- And so does that of what waits on the left of a sign.
-pub left_held : (p sign odd : ℕ) (x : Bool) (word : ℕ) → sign < 256 → odd < 2 → word ≡ (p * 256 + sign) * 4 + (2 * flag x + odd)
-    → left_of word ≡ waiting p sign x odd
-left_held p sign odd x word small bit e =
-    let letter = flag_small x in
-    same_left (omega arith) (omega arith) (flag-read x (word / 2 % 2) (omega arith)) (omega arith)
-  where
-    same_left : {a b c d g h : ℕ} {y z : Bool} → a ≡ b → c ≡ d → y ≡ z → g ≡ h → waiting a c y g ≡ waiting b d z h
-    same_left {a} {b} {c} {d} {g} {h} {y} {z} i j k l = ap₂ (λ u v. waiting u v y g) i j ∙ ap₂ (λ u v. waiting b d u v) k l
 
 -- No fault is added by a tree that is above the least one before it.
 faulted_least : (w : ℕ) (t : Tree) (f : ℕ) → faulted w t f ≤ f
@@ -224,8 +194,11 @@ module _ {w : ℕ} {l : List ℕ} {at n f : ℕ} {out : List ℕ} {r : Found} {n
   pub same_read : {s : Found} → r ≡ s → SumRead w l at n f out s now → SumRead w l at n f out r now
   same_read e read = subst (λ s. SumRead w l at n f out s now) (sym e) read
 
-  pub sum-stops : SumRead w l at n f out r now → r.ok ≡ false → SumRead w l at n f out (stopping r.at) now
-  sum-stops read none = fails refl (lost read none)
+-- And so does what tells of it.
+pub told_read : {w : ℕ} {l : List ℕ} {at n f : ℕ} {out : List ℕ} {r : Found} {now : List ℕ} (x : Result Parsed ℕ) → Tells r x → SumRead w l at n f out r now
+    → SumRead w l at n f out (as_found x) now
+told_read {w} {l} {at} {n} {f} {out} {now = now} (Ok p) is read = subst (λ s. SumRead w l at n f out s now) is read
+told_read (Err at) (none, place) read = fails refl (λ c. lost read none c ∙ ap (λ p. stops p) place)
 
 -- What is got of a text that packs does so too.
 module _ {w : ℕ} {C : Type 0} {from : C → State} {to : C → Piece → State} {Next : ℕ → Type 0} {l : List ℕ} {at n f : ℕ} {out : List ℕ} {r : Found} {now : List ℕ}

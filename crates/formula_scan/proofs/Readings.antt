@@ -10,8 +10,7 @@ use lib.Dec.{leb}
 use lib.ListN.{length, get_or, take, drop, length-drop}
 use lib.Seq.{take-suc, get_or-drop}
 use borrow.Author.Tests.{leb-true, le-leb, lt-leb}
-use Rattle.formula_scan.specs.declared.Found.{Found}
-use Rattle.formula_scan.specs.declared.Numeral.{Numeral}
+use Rattle.formula_scan.specs.Fields.{Found, Numeral}
 use Rattle.formula.specs.Bytes.{Digit}
 use Rattle.formula.specs.Grammar.{Number, nought}
 use Rattle.formula.specs.Tree.{span}
@@ -224,9 +223,6 @@ minus_goes_on l at i so e = record {
     signs : signs_before (i + 1) (i + 1 - at) ≡ i ∷ signs_before i (i - at)
     signs = ap₂ (λ q k. signs_before q k) (add-one i) (omega (arith, so.onward)) ∙ signs_next i (i - at)
 
-pub minus-ends : (l : List ℕ) (at i : ℕ) → MinusSoFar l at i → (get_or l i 0 ≡ 45 → ⊥) → MinusSigns l at i
-minus-ends l at i so none = record { onward = so.onward; inside = so.inside; none = none; counted = so.counted }
-
 -- Minus nodes, one after the other.
 pub negated_starts : (r : Found) (i : ℕ) → i ≡ 0 → r.ok ≡ true → r ≡ finding r.variable r.odd r.at (r.nodes + i) r.fault
 negated_starts r i none e =
@@ -257,10 +253,6 @@ minus-put r so first place out now more h k e w q =
 
     count : first - (place - 1) ≡ suc (first - place)
     count = omega arith
-
-pub negated-done : (r so : Found) (i signs : ℕ) → so ≡ finding r.variable r.odd r.at (r.nodes + i) r.fault → i ≡ signs
-    → so ≡ finding r.variable r.odd r.at (r.nodes + signs) r.fault
-negated-done r so i signs e q = e ∙ ap (λ k. finding r.variable r.odd r.at (r.nodes + k) r.fault) q
 
 pub odd_product : (a b : ℕ) → a < 2 → b < 2 → a * b < 2
 odd_product zero b p q = omega arith

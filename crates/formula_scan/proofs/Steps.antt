@@ -2,12 +2,12 @@
 use mathlib.Core.Path.{◌≡◌, refl, sym, ap, ◌∙◌}
 use mathlib.Core.Bool.{Bool, true, false}
 use mathlib.Core.List.{List}
-use Prim.Native.Nat.{ℕ, suc, ◌+◌, ◌≤◌, ◌<◌}
+use Prim.Native.Nat.{ℕ, suc, ◌+◌, ◌-◌, ◌≤◌, ◌<◌}
 use native.Mathlib.Numerals.{add-one}
 use native.Mathlib.Omega.{arith}
 use lib.Dec.{ltb}
-use lib.ListN.{length, get_or, drop, drop_of_length-le, get_or-eq_default}
-use lib.Seq.{drop-cons}
+use lib.ListN.{length, get_or, take, drop, length-drop, drop_of_length-le, get_or-eq_default}
+use lib.Seq.{take-length, get_or-drop, drop-cons}
 use borrow.Author.Tests.{ltb-true, ltb-false}
 use Rattle.formula_scan.specs.Scan.{byte_of, State, stopped, step, stops, ending, run}
 use Rattle.formula_scan.proofs.Scanning.{run-stopped}
@@ -19,6 +19,16 @@ inside l at h = go (ltb at (length l)) refl
     go : (t : Bool) → ltb at (length l) ≡ t → at < length l
     go true e = ltb-true at (length l) e
     go false e = absurd (omega (arith, get_or-eq_default l 0 (ltb-false at (length l) e)))
+
+-- The bytes from a place on, as a part of the text, and the byte at one of their places.
+abbrev pub rest : List ℕ → ℕ → List ℕ
+rest l at = take (length l - at) (drop at l)
+
+pub rest-drop : (l : List ℕ) (at : ℕ) → rest l at ≡ drop at l
+rest-drop l at = ap (λ n. take n (drop at l)) (sym (length-drop at l)) ∙ take-length (drop at l)
+
+pub rest_byte : (l : List ℕ) (at k p : ℕ) → p ≡ at + k → get_or (rest l at) k 0 ≡ get_or l p 0
+rest_byte l at k p e = ap (λ r. get_or r k 0) (rest-drop l at) ∙ get_or-drop at l k 0 ∙ ap (λ i. get_or l i 0) (sym e)
 
 run-next : (S : State) (l : List ℕ) (at : ℕ) → at < length l
     → run S at (drop at l) ≡ run (step S at (byte_of (get_or l at 0))) (suc at) (drop (suc at) l)

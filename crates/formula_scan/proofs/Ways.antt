@@ -10,9 +10,7 @@ use lib.Dec.{eqb, leb, ltb}
 use lib.ListN.{length, get_or, drop}
 use lib.Pow.{pow_pos}
 use borrow.Author.Tests.{le-leb, lt-leb, ltb-true, ltb-false, ne_eqb, eq-eqb, eqb-true, eqb-false}
-use Rattle.formula_scan.specs.declared.Found.{Found}
-use Rattle.formula_scan.specs.declared.Left.{Left}
-use Rattle.formula_scan.specs.declared.Numeral.{Numeral}
+use Rattle.formula_scan.specs.Fields.{Found, Left, Numeral}
 use Rattle.formula.specs.Bytes.{Digit}
 use Rattle.formula.specs.Tree.{Span, span, Tree, number, variable, sum, difference, product, minus, literal_power, raise, nodes, holds_x}
 use Rattle.formula_scan.specs.Scan.{Byte, plus_byte, minus_byte, star_byte, caret_byte, open_byte, close_byte, x_byte, zero_byte, digit_byte, other_byte, byte_of, Piece, piece, noded, negative, raise_to, joined, PendingSum, no_sum, adding, subtracting, PendingProduct, no_product, multiplying, Level, level, Outer, bottom, in_brackets, in_exponent, fresh, State, operand, atomed, after_caret, powered, stopped, negatives, product_with, sum_with, closed, after_power, after_atom, before_operand, before_exponent, step, stops, ended, ending, run}
@@ -176,9 +174,6 @@ abbrev pub Base : ℕ → List ℕ → ℕ → ℕ → ℕ → List ℕ → Foun
 Base width = Got width Level operand atomed Anything
 
 module _ {width : ℕ} (l : List ℕ) (at n f : ℕ) (out : List ℕ) where
-  pub power_lost : (r : Found) (now : List ℕ) → AtomRead width l at n f out r now → r.ok ≡ false → PowerRead width l at n f out r now
-  power_lost r now read no-tree = fails no-tree (lost read no-tree)
-
   pub power-plain : (r : Found) (now : List ℕ) → Base width l at n f out r now → (get_or l r.at 0 ≡ 94 → ⊥) → PowerRead width l at n f out r now
   power-plain r now base none =
       gets base.t r.at base.is base.writes base.onward base.inside base.room tt
@@ -424,21 +419,8 @@ abbrev pub WholeProduct : ℕ → List ℕ → ℕ → ℕ → ℕ → List ℕ 
 WholeProduct width = Got width InSum (λ c. operand (in_sum c)) (λ c x. powered (in_sum c) x) Anything
 
 module _ {width : ℕ} {l : List ℕ} {at n f : ℕ} {out : List ℕ} where
-  pub product_starts : (left : Found) (sign : ℕ) → sign ≡ 0 → left ≡ finding false 0 at n f → ProductSoFar width l at n f out left sign out
-  product_starts left sign j e = none_yet j e refl
-
   module _ {left right : Found} {sign : ℕ} {now soon : List ℕ} (so : ProductSoFar width l at n f out left sign now)
       (read : PowerRead width l left.at left.nodes left.fault now right soon) where
-    pub product_lost : right.ok ≡ false → ProductRead width l at n f out right soon
-    product_lost no-tree = go so
-      where
-        go : ProductSoFar width l at n f out left sign now → ProductRead width l at n f out right soon
-        go (none_yet j e w) =
-            fails no-tree (λ c. ap (λ q. run (operand (in_sum c)) q (drop q l)) (sym (ap (λ (x : Found). x.at) e)) ∙ lost read no-tree (in_sum c))
-        go (times-next t p j e w a b c d) =
-            fails no-tree (λ c. d c ∙ ap (λ q. run (operand (level c.0 (multiplying (piece (span at p) t)) [] c.1)) q (drop q l)) (sym (ap (λ (x : Found). x.at) e))
-            ∙ lost read no-tree (level c.0 (multiplying (piece (span at p) t)) [] c.1))
-
     product-both : right.ok ≡ true → (r : Found) (then : List ℕ) → r ≡ cond (eqb sign 0) right (product_found left.variable left.odd right)
         → then ≡ cond (eqb sign 0) soon (put soon right.nodes 5 0 (span at right.at)) → WholeProduct width l at n f out r then
     unfolding holds_x parity nodes faulted wrote
@@ -627,9 +609,6 @@ abbrev pub WholeSum : ℕ → List ℕ → ℕ → ℕ → ℕ → List ℕ → 
 WholeSum width = Got width Outer (λ o. operand (fresh o)) (λ o x. powered (fresh o) x) NoStar
 
 module _ {width : ℕ} {l : List ℕ} {at n f : ℕ} {out : List ℕ} where
-  pub sum_starts : (left : Found) (sign : ℕ) → sign ≡ 0 → left ≡ finding false 0 at n f → SumSoFar width l at n f out left sign out
-  sum_starts left sign j e = none_yet j e refl
-
   module _ {left right : Found} {sign : ℕ} {now soon : List ℕ} (so : SumSoFar width l at n f out left sign now)
       (read : ProductRead width l left.at left.nodes left.fault now right soon) where
     pub sum_lost : right.ok ≡ false → SumRead width l at n f out right soon
@@ -773,13 +752,6 @@ abbrev pub WholeBracket : ℕ → List ℕ → ℕ → ℕ → ℕ → List ℕ 
 WholeBracket width = Got width Outer (λ o. operand (fresh o)) (λ o x. powered (fresh o) x) NoSign
 
 module _ {width : ℕ} (l : List ℕ) (at n f : ℕ) (out : List ℕ) (s : Found) (now : List ℕ) where
-  pub bracket_lost : SumRead width l (at + 1) n f out s now → s.ok ≡ false → (r : Found) → r ≡ stopping s.at → BracketRead width l at n f out r now
-  bracket_lost read no-tree r q = fails (ap (λ (x : Found). x.ok) q) (λ c. go c ∙ ap (λ p. stops p) (sym (ap (λ (x : Found). x.at) q)))
-    where
-      go : (c : Enclosing) → run (opened c) (at + 1) (drop (at + 1) l) ≡ stops s.at
-      go (brackets lv q) = lost read no-tree (in_brackets lv q)
-      go (exponent lv a p) = lost read no-tree (in_exponent lv a p)
-
   pub bracket_open : WholeBracket width l (at + 1) n f out s now → (get_or l s.at 0 ≡ 41 → ⊥) → (r : Found) → r ≡ stopping s.at → BracketRead width l at n f out r now
   unfolding ending ended
   bracket_open whole none r q = fails (ap (λ (x : Found). x.ok) q) (λ c. go c ∙ ap (λ p. stops p) (sym (ap (λ (x : Found). x.at) q)))
@@ -820,13 +792,6 @@ module _ {width : ℕ} {C : Type 0} {from : C → State} {to : C → Piece → S
 
   pub got_few : n ≤ at → r.nodes ≤ r.at
   got_few h = omega (arith, g.counted, g.room)
-
-pub joined-place : (sign : ℕ) (right joint r : Found) → joint.at ≡ right.at → r ≡ cond (eqb sign 0) right joint → r.at ≡ right.at
-joined-place sign right joint r same e = go (eqb sign 0) e
-  where
-    go : (t : Bool) → r ≡ cond t right joint → r.at ≡ right.at
-    go true q = ap (λ (x : Found). x.at) q
-    go false q = ap (λ (x : Found). x.at) q ∙ same
 
 -- What waits on the left of the next operand: where the whole began, a sign, and what was found so far.
 abbrev pub Waits : Left → ℕ → Found → Type 0

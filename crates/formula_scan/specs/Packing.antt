@@ -1,8 +1,8 @@
 -- What a reader found, read off one word: the nodes, the fault, the place and three flags, each in digits of its own.
 -- The word travels in a register where the struct would travel over the stack. Nobody has to believe this page.
-use Rattle.std.specs.Prelude.{Bool, cond, List, ℕ, ◌/◌, ◌%◌, ◌≤◌, ◌<◌, eqb, length}
-use Rattle.formula_scan.specs.declared.Found.{Found}
-use Rattle.formula_scan.specs.declared.Left.{Left}
+use Rattle.std.specs.Prelude.{◌≡◌, Bool, false, cond, Result, Ok, Err, List, ℕ, ◌/◌, ◌%◌, ◌≤◌, ◌<◌, eqb, length}
+use Rattle.formula_scan.specs.declared.Parsed.{Parsed}
+use Rattle.formula_scan.specs.Fields.{Found, Left, as_parsed}
 use Rattle.formula_scan.specs.Readers.{fault_places, no_fault}
 
 -- Above the code of any fault, and above `no_fault`.
@@ -31,6 +31,11 @@ unpacked word = record {
 -- What waits on the left of a sign, read off one word: from the lowest digit on its oddness, whether x stands in it, the sign, the first byte.
 abbrev pub left_of : ℕ → Left
 left_of word = record { first = word / 4 / 256; sign = word / 4 % 256; variable = eqb (word / 2 % 2) 1; odd = word % 2 }
+
+-- What a reader answers tells what is found: all of a tree, of a stop its place.
+abbrev pub Tells : Found → Result Parsed ℕ → Type 0
+Tells f (Ok p) = f ≡ as_parsed p
+Tells f (Err at) = (f.ok ≡ false) × (f.at ≡ at)
 
 -- What is found fits one word.
 pub record Packable (f : Found) : Type 0 where

@@ -1,14 +1,14 @@
 -- What the readers' own contracts say: how far a reader came, and what it noted of the tree it read. The tree itself is in no word of
 -- the reader's state, so each contract says that there is one. Nobody has to believe this page; proofs/ ties it to the others.
-use Rattle.std.specs.Prelude.{◌≡◌, Bool, true, false, cond, ◌||◌, List, [], ◌∷◌, ◌++◌, ℕ, zero, suc, ◌+◌, ◌-◌, ◌*◌, ◌%◌, ◌^◌, ◌≤◌, ◌<◌, min, eqb, leb, ltb, length, get_or, take, drop, replicate}
+use Rattle.std.specs.Prelude.{◌≡◌, Bool, true, false, cond, ◌||◌, Result, Ok, Err, List, [], ◌∷◌, ◌++◌, ℕ, zero, suc, ◌+◌, ◌-◌, ◌*◌, ◌%◌, ◌^◌, ◌≤◌, ◌<◌, min, eqb, leb, ltb, length, get_or, take, drop, replicate}
 use Rattle.std.proofs.lemmas.List.Edits.{sets}
 use Rattle.formula.specs.Bytes.{star, plus_sign, minus_sign, Digit}
 use Rattle.formula.specs.Grammar.{Number}
 use Rattle.formula.specs.Words.{most_nodes, nodes_length}
-use Rattle.formula_scan.specs.declared.Found.{Found}
-use Rattle.formula_scan.specs.declared.Left.{Left}
-use Rattle.formula_scan.specs.declared.Numeral.{Numeral}
-use Rattle.formula.specs.declared.ReadAnswer.{ReadAnswer}
+use Rattle.formula_scan.specs.Fields.{Found, Left, Numeral}
+use Rattle.formula.specs.Answer.{ReadAnswer}
+use Rattle.formula.specs.declared.Refusal.{Refusal}
+use Rattle.formula.specs.declared.Refusal.TheVariants.{NumberTooLarge, ExponentTooLarge, TooManyNodes, BaseNotOdd}
 use Rattle.formula.specs.Refusals.{TooDeep, Refused, Accepted}
 use Rattle.formula.specs.Tree.{Span, span, first, end, Tree, number, variable, sum, difference, product, minus, literal_power, raise, nodes, holds_x}
 use Rattle.formula_scan.specs.Scan.{Piece, piece, number_to, literal_to, raise_to, PendingSum, Level, level, no_product, Outer, in_brackets, in_exponent, fresh, State, operand, atomed, after_caret, powered, run, stops}
@@ -63,6 +63,12 @@ faulted w (raise s a p b) f = faulted w b (min (faulted w a f) (base_fault (hold
 -- The least fault of a tree, refusal 7 for its count of nodes among them; `no_fault` if there is none.
 abbrev pub code : ℕ → Tree → ℕ
 code w t = min (faulted w t no_fault) (cond (ltb most_nodes (nodes t)) (fault_code 7 0) no_fault)
+
+-- The refusal that a code's number and place stand for, 5 to 8, or none.
+abbrev pub noted_refusal : (number place : ℕ) → Result (Unit {0}) Refusal
+noted_refusal n p =
+    cond (eqb n 5) (Err (NumberTooLarge p))
+    (cond (eqb n 6) (Err (ExponentTooLarge p)) (cond (eqb n 7) (Err TooManyNodes) (cond (eqb n 8) (Err (BaseNotOdd p)) (Ok tt))))
 
 -- How a node is laid out, with its kind, its word and its span: not at all, in two words, or in four where the span stands behind.
 abbrev pub Layout : Type 0

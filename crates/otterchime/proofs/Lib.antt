@@ -1,4 +1,3 @@
--- Uniqueness of the exports, the words of signed numbers, and a word stored behind others.
+-- What the contracts of the door promise, that no two answers meet one, and a word stored behind others.
 pub mod Uniqueness
-mod SignedWords
 mod Behind

@@ -1,20 +1,13 @@
 -- The words that each call of the door leaves in its lent answer: word 0 is the refusal's number, word 1 its place, then come the call's own words.
 -- What an answer says is defined in the crates below; only its layout is defined here.
 use Rattle.std.specs.Prelude.{◌≡◌, List, [], ◌∷◌, ◌++◌, ℕ}
-use Rattle.chain.specs.declared.ChainAnswer.{ChainAnswer}
-use Rattle.chain.specs.declared.ShiftAnswer.{ShiftAnswer}
-use Rattle.chain.specs.declared.ValueAnswer.{ValueAnswer}
-use Rattle.plan.specs.declared.FillAnswer.{FillAnswer}
-use Rattle.plan.specs.declared.FillErasAnswer.{FillErasAnswer}
-use Rattle.plan.specs.declared.CostAnswer.{CostAnswer}
-use Rattle.plan.specs.declared.SoundAnswer.{SoundAnswer}
-use Rattle.fold.specs.declared.CompileAnswer.{CompileAnswer}
+use Rattle.chain.specs.Answer.{ChainAnswer, ShiftAnswer, ValueAnswer}
+use Rattle.plan.specs.Answers.{FillAnswer, FillErasAnswer, CostAnswer, SoundAnswer}
+use Rattle.fold.specs.Answer.{CompileAnswer}
 use Rattle.fold.specs.Compiling.{Compiling}
-use Rattle.reason.specs.declared.ReasonAnswer.{ReasonAnswer}
+use Rattle.reason.specs.Answer.{ReasonAnswer}
 use Rattle.reason.specs.Explaining.{Explaining}
-use Rattle.probe.specs.declared.Verdict.{Verdict}
-use Rattle.probe.specs.declared.Verdict.TheVariants.{NoVerdict, Within, Ahead, Behind, Unset}
-use Rattle.probe.specs.declared.ProbeAnswer.{ProbeAnswer}
+use Rattle.probe.specs.Answer.{Verdict, NoVerdict, Within, Ahead, Behind, Unset, ProbeAnswer}
 use Rattle.word.specs.Signed.{word_of}
 
 -- Number and place.

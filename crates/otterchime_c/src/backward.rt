@@ -1,5 +1,6 @@
 // The calls for tables that run backwards: a forward chain's inverse shift, the calls on backward chains, and conversion from and to them.
 // The other chain calls are in `chains`.
+// Kept: each function is its twin of `otterchime` under the name that include/otterchime.h gives it, since C calls these names and a library exports none.
 ghost use Rattle.std.specs.Prelude.{◌≡◌};
 ghost use Rattle.chain.specs.Answer.{answered, sum_outcome, value_answer};
 ghost use Rattle.chain.specs.BackwardAnswer.{inverse_shift_outcome, backward_shift_outcome, backward_inverse_shift_outcome, backward_product_outcome, to_backward_outcome, to_forward_outcome};

@@ -1,5 +1,6 @@
 // The chain calls of the door. A chain comes as 17 words f and its length k; words past the length are not read.
 // The calls for tables that run backwards are in `backward`, those on formulas, plans and readings in the crate's root.
+// Kept: each function is its twin of `otterchime` under the name that include/otterchime.h gives it, since C calls these names and a library exports none.
 ghost use Rattle.std.specs.Prelude.{◌≡◌};
 ghost use Rattle.chain.specs.Answer.{answered, trim_outcome, sum_outcome, difference_outcome, product_outcome, shift_answer, coefficients_outcome, value_answer};
 ghost use Rattle.otterchime.specs.Answers.{chain_words, shift_words, value_words};

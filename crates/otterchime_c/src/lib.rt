@@ -1,5 +1,6 @@
 // The door for C: each function of `otterchime` under its own name, exported with the same contract. include/otterchime.h documents the calls.
 // What a call answers is decided there. Compiling, filling, explaining and the probe are here, the chain calls in `chains` and `backward`.
+// Kept: each function is its twin of `otterchime` under the name that include/otterchime.h gives it, since C calls these names and a library exports none.
 #![tactic(auto)]
 
 mod backward;

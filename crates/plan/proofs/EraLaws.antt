@@ -3,50 +3,46 @@
 use mathlib.Core.Path.{◌≡◌, refl, sym, ap, ap₂, ◌∙◌}
 use mathlib.Core.Bool.{Bool, true, false, cond, ◌||◌}
 use mathlib.Core.Logic.{◌⊎◌, inl, inr}
-use mathlib.Core.List.{List, [], ◌∷◌}
+use mathlib.Core.List.{List, [], ◌∷◌, ◌++◌}
 use Prim.Native.Nat.{ℕ, zero, suc, ◌+◌, ◌-◌, ◌*◌, ◌^◌, ◌≤◌, ◌<◌}
-use native.Mathlib.Nat.{zero-add, suc-add, suc-ne-zero}
+use native.Mathlib.Nat.{suc-ne-zero}
 use native.Mathlib.Omega.{arith}
-use borrow.Author.Tests.{eqb-true, eqb-false, eq-eqb, ne_eqb, ltb-true}
-use lib.Dec.{eqb, ltb, le→leb}
-use lib.IntN.{ℤ, pos, negsuc, nat_abs, sub_ℕ, neg_ℤ, ◌+ℤ◌, ◌*ℤ◌, +ℤ_idl, +ℤ_idr, +ℤ_assoc, +ℤ_comm}
-use lib.ListN.{length, drop}
-use lib.Signed.{le_z, lt_z, mag, ◌≤ℤ◌}
-use mir.Syntax.{w64}
-use mir.Val.{SFits, to_z, of_z}
-use mir.ValLaws.{to_z-of_z}
+use borrow.Author.Tests.{lt-ltb, eqb-true, eqb-false, eq-eqb, ne_eqb}
+use lib.Dec.{eqb, le→leb}
+use lib.IntN.{ℤ, pos, negsuc, nat_abs, neg_ℤ, ◌+ℤ◌, ◌*ℤ◌, +ℤ_assoc, +ℤ_comm}
+use lib.ListN.{length, drop, take-append-drop}
+use lib.Signed.{le_z, lt_z, ◌≤ℤ◌}
 use Rattle.word.proofs.WholeNumbers.{last_two, times-sum}
 use Rattle.word.proofs.Unique.{both_are}
 use Rattle.word.specs.Signed.{signed}
 use Rattle.chain.specs.Chain.{value}
 use Rattle.chain.specs.Crossing.{signed_step, crossed_by, crossing}
 use Rattle.chain.proofs.CrossingLaws.{exact_shift}
-use Rattle.plan.specs.Measures.{row_length}
-use Rattle.plan.specs.declared.FillErasAnswer.{FillErasAnswer}
+use Rattle.plan.specs.Measures.{plan_length, row_length}
+use Rattle.plan.specs.declared.Refusal.{Refusal}
+use Rattle.plan.specs.declared.Refusal.TheVariants.{TooShort}
+use Rattle.plan.specs.Answers.{refusal_number, FillErasAnswer}
 use Rattle.plan.specs.Row.{kind, word_a, first_element, row_cost, is_chain}
 use Rattle.plan.specs.Plan.{row_count, sound, rows_from, first_rows, cost, cost_of, refusal}
 use Rattle.plan.specs.Points.{shifted_plan}
 use Rattle.plan.specs.Filling.{points_for, plan_after, filled, fill_refused, fill}
 use Rattle.plan.specs.Calls.{Call, points_of}
-use Rattle.plan.specs.Eras.{root_row, root_chain, eras_over, steps_over, position, AreWords, constant_or_sum, eras_refusal, with_sum, fill_eras, sum_of}
+use Rattle.plan.specs.Eras.{FilledEras, root_row, root_chain, eras_over, steps_over, position, AreWords, constant_or_sum, eras_refusal, with_sum, fill_eras, sum_of}
 use Rattle.plan.proofs.RowLaws.{cost-append}
 use Rattle.plan.proofs.SoundLaws.{sound-count, sound_keeps, kept_some, rows_split}
 use Rattle.plan.proofs.Keeping.{sound-shifted, refusal-after}
-use Rattle.plan.proofs.Accepting.{accepted, fill-accepted, spent_fits}
+use Rattle.plan.proofs.Counting.{counted_add, abs_counted, eras_counted}
+use Rattle.plan.proofs.Decoding.{refused-some}
+use Rattle.plan.proofs.Lent.{lent_plan, lent_refusal, lent_root_row, lent_eras}
+use Rattle.plan.proofs.Accepting.{lent_fill, accepted, fill-accepted, spent_fits}
 use Rattle.plan.proofs.RootChains.{root_kind, first_of, crosses_not, root_words, root_chain-shifted, root_words-shifted}
 
 -- ---- n points and then m more
 pub eras_add : (w n m : ℕ) (p : List ℕ) → eras_over w (n + m) p ≡ eras_over w n p +ℤ eras_over w m (plan_after w n p)
-unfolding eras_over plan_after
-eras_add w zero m p = rw (zero-add m) (sym (+ℤ_idl (eras_over w m p)))
-eras_add w (suc n) m p =
-    rw (suc-add n m)
-    (ap (λ z. crossing w (root_chain p) +ℤ z) (eras_add w n m (shifted_plan w p))
-    ∙ sym (+ℤ_assoc (crossing w (root_chain p)) (eras_over w n (shifted_plan w p)) (eras_over w m (plan_after w n (shifted_plan w p)))))
-
-pub eras_next : (w n : ℕ) (p : List ℕ) → eras_over w (n + 1) p ≡ eras_over w n p +ℤ crossing w (root_chain (plan_after w n p))
-unfolding eras_over
-eras_next w n p = eras_add w n 1 p ∙ ap (λ z. eras_over w n p +ℤ z) (+ℤ_idr (crossing w (root_chain (plan_after w n p))))
+eras_add w n m p =
+    eras_counted w (n + m) p
+    ∙ counted_add (λ q. crossing w (root_chain q)) w n m p
+    ∙ sym (ap₂ ◌+ℤ◌ (eras_counted w n p) (eras_counted w m (plan_after w n p)))
 
 -- ---- the exact position
 -- One point: the root's first element and its signed step are the first element after the shift and 2^w times the crossing.
@@ -86,20 +82,7 @@ pub exact_position : (w n : ℕ) (p : List ℕ) → AreWords w p → sound p ≡
 exact_position w n p fits e told = exact_chain w n p e told (root_words w p fits)
 
 -- ---- the sum's range: a point adds 1 at most, or takes 1 away
-abs_difference : (a b : ℕ) → nat_abs (sub_ℕ a b) ≤ a + b
-abs_difference a b = go (ltb a b) refl
-  where
-    go : (c : Bool) → ltb a b ≡ c → nat_abs (cond c (negsuc (b - suc a)) (pos (a - b))) ≤ a + b
-    go true e = omega (arith, ltb-true a b e)
-    go false e = omega arith
-
-abs_sum : (a b : ℤ) → nat_abs (a +ℤ b) ≤ nat_abs a + nat_abs b
-abs_sum (pos a) (pos b) = omega arith
-abs_sum (pos a) (negsuc b) = abs_difference a (suc b)
-abs_sum (negsuc a) (pos b) = omega (arith, abs_difference b (suc a))
-abs_sum (negsuc a) (negsuc b) = omega arith
-
-abs_crossing : (w : ℕ) (f : List ℕ) → nat_abs (crossing w f) ≤ 1
+pub abs_crossing : (w : ℕ) (f : List ℕ) → nat_abs (crossing w f) ≤ 1
 unfolding crossed_by
 abs_crossing w [] = omega arith
 abs_crossing w (a ∷ []) = omega arith
@@ -111,34 +94,7 @@ abs_crossing w (a ∷ b ∷ f) = go (le_z (pos (2 ^ w)) (pos a +ℤ signed w b))
     go false false = omega arith
 
 pub abs_eras : (w n : ℕ) (p : List ℕ) → nat_abs (eras_over w n p) ≤ n
-unfolding eras_over
-abs_eras w zero p = omega arith
-abs_eras w (suc n) p =
-    omega (
-      arith,
-      abs_sum (crossing w (root_chain p)) (eras_over w n (shifted_plan w p)),
-      abs_crossing w (root_chain p),
-      abs_eras w n (shifted_plan w p),
-    )
-
-mag_abs : (z : ℤ) → mag z ≤ nat_abs z
-mag_abs (pos n) = omega arith
-mag_abs (negsuc n) = omega arith
-
-pub eras_fit : (w n : ℕ) (p : List ℕ) → n < 2 ^ 63 → SFits w64 (eras_over w n p)
-eras_fit w n p few = record { sfits = omega (arith, mag_abs (eras_over w n p), abs_eras w n p) }
-
--- What the code adds up, point after point: `to_z w64` is the number that bits are read as. It fits while there are fewer than 2^63 points.
-module _ (n : ℕ) (p : List ℕ) (bits : ℕ) (z : ℤ) (few : n + 1 < 2 ^ 63) (so_far : to_z w64 bits ≡ eras_over 64 n p) (fits : SFits w64 z)
-    (here : z ≡ crossing 64 (root_chain (plan_after 64 n p))) where
-  next : to_z w64 bits +ℤ to_z w64 (of_z w64 z) ≡ eras_over 64 (n + 1) p
-  next = ap₂ ◌+ℤ◌ so_far (to_z-of_z w64 z fits ∙ here) ∙ sym (eras_next 64 n p)
-
-  pub counts_on : SFits w64 (to_z w64 bits +ℤ to_z w64 (of_z w64 z))
-  counts_on = rw next (eras_fit 64 (n + 1) p few)
-
-  pub counted : to_z w64 (of_z w64 (to_z w64 bits +ℤ to_z w64 (of_z w64 z))) ≡ eras_over 64 (n + 1) p
-  counted = to_z-of_z w64 (to_z w64 bits +ℤ to_z w64 (of_z w64 z)) counts_on ∙ next
+abs_eras w n p = rw (eras_counted w n p) (abs_counted (λ q. crossing w (root_chain q)) (λ q. abs_crossing w (root_chain q)) w n p)
 
 -- A root that is no sum chain never crosses.
 eras_none : (w n : ℕ) (p : List ℕ) → sound p ≡ true → (kind (root_row p) ≡ 1 → ⊥) → eras_over w n p ≡ pos 0
@@ -166,17 +122,9 @@ root_cost p e k =
 
 -- ---- refusals, and the answers either way
 -- 1, then 9, then 16.
-pub first_refusals : (p : List ℕ) → (refusal p ≡ 0 → ⊥) → eras_refusal p ≡ refusal p
-unfolding eras_refusal
-first_refusals p h = ap (λ b. cond b (cond (constant_or_sum (root_row p)) 0 16) (refusal p)) (ne_eqb (refusal p) 0 h)
-
 pub last-refusal : (p : List ℕ) → refusal p ≡ 0 → eras_refusal p ≡ cond (constant_or_sum (root_row p)) 0 16
 unfolding eras_refusal
 last-refusal p e = ap (λ b. cond b (cond (constant_or_sum (root_row p)) 0 16) (refusal p)) (eq-eqb (refusal p) 0 e)
-
--- By the kind that the code reads of the root.
-pub last_by_kind : (p : List ℕ) {k : ℕ} → refusal p ≡ 0 → k ≡ kind (root_row p) → eras_refusal p ≡ cond (eqb k 0 || eqb k 1) 0 16
-last_by_kind p e known = last-refusal p e ∙ ap (λ k. cond (eqb k 0 || eqb k 1) 0 16) (sym known)
 
 pub eras_accepted : (p : List ℕ) → eras_refusal p ≡ 0 → (refusal p ≡ 0) × (constant_or_sum (root_row p) ≡ true)
 unfolding eras_refusal
@@ -226,26 +174,70 @@ sound-number w p table budget e = go (constant_or_sum (root_row p)) refl
     go true told = inl (number_is w p table budget ∙ last-refusal p e ∙ ap (λ b. cond b 0 16) told)
     go false other = inr (number_is w p table budget ∙ last-refusal p e ∙ ap (λ b. cond b 0 16) other)
 
+pub eras_short : (p : List ℕ) → length p < plan_length → refusal_number TooShort ≡ eras_refusal p
+unfolding eras_refusal
+eras_short p few = rw (lt-ltb (length p) plan_length few)
+
 -- What the code of a refused call answers and leaves, and that of an accepted one: what a fill does, and the sum.
-pub eras_refused : (p table : List ℕ) (budget : ℕ) {n : ℕ} → n ≡ eras_refusal p → (n ≡ 0 → ⊥)
-    → (record { number = n; place = 0; points = 0; spent = 0; sum = pos 0 } ≡ (fill_eras 64 p table budget).answer)
-    × ((table ≡ (fill_eras 64 p table budget).table) × (p ≡ (fill_eras 64 p table budget).plan))
-eras_refused p table budget e h =
-    rw (refused_alters_nothing 64 p table budget (λ z. h (e ∙ z)))
-    (ap {B = FillErasAnswer} (λ n. record { number = n; place = 0; points = 0; spent = 0; sum = pos 0 }) e, (refl, refl))
+pub eras_refuses : (p table : List ℕ) (budget : ℕ) (e : Refusal) → refusal_number e ≡ eras_refusal p
+    → (record { number = refusal_number e; place = 0; points = 0; spent = 0; sum = pos 0 } ≡ (fill_eras 64 p table budget).answer)
+    × (table ≡ (fill_eras 64 p table budget).table) × (p ≡ (fill_eras 64 p table budget).plan)
+eras_refuses p table budget e told =
+    rw (refused_alters_nothing 64 p table budget (λ none. refused-some e (told ∙ none)))
+    (ap {B = FillErasAnswer} (λ n. record { number = n; place = 0; points = 0; spent = 0; sum = pos 0 }) told, refl, refl)
 
 pub eras_done : (p table : List ℕ) (budget : ℕ) {n spent : ℕ} {written left : List ℕ} {z : ℤ} → eras_refusal p ≡ 0
     → (record { number = 0; place = 0; points = n; spent = spent } ≡ (fill 64 p table budget).answer)
-    × ((written ≡ (fill 64 p table budget).table) × (left ≡ (fill 64 p table budget).plan))
+    × (written ≡ (fill 64 p table budget).table) × (left ≡ (fill 64 p table budget).plan)
     → z ≡ eras_over 64 n p
     → (record { number = 0; place = 0; points = n; spent = spent; sum = z } ≡ (fill_eras 64 p table budget).answer)
-    × ((written ≡ (fill_eras 64 p table budget).table) × (left ≡ (fill_eras 64 p table budget).plan))
+    × (written ≡ (fill_eras 64 p table budget).table) × (left ≡ (fill_eras 64 p table budget).plan)
 eras_done p table budget {n} {spent} {z = z} e done sums =
     rw (accepted-fills 64 p table budget e) (
       ap₂ {C = FillErasAnswer} (λ r s. record { number = r.number; place = r.place; points = r.points; spent = r.spent; sum = s }) done.0
           (sums ∙ ap (λ r. eras_over 64 r.points p) done.0),
-      (done.1.0, done.1.1),
+      done.1,
+      done.2,
     )
+
+-- The words that are lent after a plan change no answer, and stay.
+pub lent_eras_refusal : (p : List ℕ) → plan_length ≤ length p → eras_refusal (lent_plan p) ≡ eras_refusal p
+unfolding eras_refusal
+lent_eras_refusal p long = ap (λ n. cond (eqb n 0) (cond (constant_or_sum (root_row (lent_plan p))) 0 16) n) same ∙ pick (eqb (refusal p) 0) refl
+  where
+    same : refusal (lent_plan p) ≡ refusal p
+    same = lent_refusal p long
+
+    pick : (b : Bool) → eqb (refusal p) 0 ≡ b
+        → cond b (cond (constant_or_sum (root_row (lent_plan p))) 0 16) (refusal p) ≡ cond b (cond (constant_or_sum (root_row p)) 0 16) (refusal p)
+    pick true e = ap (λ row. cond (constant_or_sum row) 0 16) (lent_root_row p (accepted p (eqb-true (refusal p) 0 e)).1)
+    pick false e = refl
+
+abbrev pub CountsAlike : List ℕ → FilledEras → FilledEras → Type 0
+CountsAlike p r s = (r.answer ≡ s.answer) × (r.table ≡ s.table) × (r.plan ++ drop plan_length p ≡ s.plan)
+
+pub lent_fill_eras : (w : ℕ) (p table : List ℕ) (budget : ℕ) {q : List ℕ} → plan_length ≤ length p → q ≡ lent_plan p
+    → CountsAlike p (fill_eras w q table budget) (fill_eras w p table budget)
+lent_fill_eras w p table budget long whole = rw whole (judged (eqb (eras_refusal p) 0) refl)
+  where
+    same : eras_refusal (lent_plan p) ≡ eras_refusal p
+    same = lent_eras_refusal p long
+
+    judged : (b : Bool) → eqb (eras_refusal p) 0 ≡ b → CountsAlike p (fill_eras w (lent_plan p) table budget) (fill_eras w p table budget)
+    judged true e =
+        let none = eqb-true (eras_refusal p) 0 e in
+        let good = (accepted p (eras_accepted p none).0).1 in
+        let alike = lent_fill w p table budget long refl in
+        rw (accepted-fills w (lent_plan p) table budget (same ∙ none), accepted-fills w p table budget none) (
+          ap₂ {C = FillErasAnswer} (λ r z. record { number = r.number; place = r.place; points = r.points; spent = r.spent; sum = z }) alike.0
+              (ap (λ r. eras_over w r.points (lent_plan p)) alike.0 ∙ lent_eras w (fill w p table budget).answer.points p good),
+          alike.1,
+          alike.2,
+        )
+    judged false e =
+        let some = eqb-false (eras_refusal p) 0 e in
+        rw (refused_alters_nothing w (lent_plan p) table budget (λ z. some (sym same ∙ z)), refused_alters_nothing w p table budget some)
+        (ap {B = FillErasAnswer} (λ n. record { number = n; place = 0; points = 0; spent = 0; sum = pos 0 }) same, refl, take-append-drop plan_length p)
 
 -- The sum is a signed number of 64 bits, whatever table and budget: a plan with a sum chain for its root has no more points than half the budget, and any
 -- other root never crosses.

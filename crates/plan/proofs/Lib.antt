@@ -2,9 +2,12 @@
 pub mod RowLaws
 pub mod SoundLaws
 pub mod Keeping
-pub mod SpanLaws
 pub mod Later
+pub mod SpanLaws
+pub mod Lent
+pub mod Decoding
 pub mod Accepting
 pub mod Sharing
 pub mod RootChains
+pub mod Counting
 pub mod EraLaws

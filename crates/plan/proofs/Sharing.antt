@@ -8,9 +8,7 @@ use native.Mathlib.Omega.{arith}
 use lib.ListN.{length, get_or, set, take, drop}
 use lib.Seq.{drop-cons, append_snoc, set_at, take_at}
 use Rattle.word.proofs.Unique.{both_are}
-use Rattle.plan.specs.declared.FillAnswer.{FillAnswer}
-use Rattle.plan.specs.declared.CostAnswer.{CostAnswer}
-use Rattle.plan.specs.declared.SoundAnswer.{SoundAnswer}
+use Rattle.plan.specs.Answers.{FillAnswer, CostAnswer, SoundAnswer}
 use Rattle.plan.specs.Plan.{refusal}
 use Rattle.plan.specs.Points.{root_value, shifted_plan}
 use Rattle.plan.specs.Filling.{point_cost, points_for, plan_after, point_values, filled, fill, cost_answer, sound_answer}

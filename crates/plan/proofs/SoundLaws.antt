@@ -3,15 +3,15 @@ use mathlib.Core.Path.{◌≡◌, refl, sym, ap, ap₂, subst, ◌∙◌}
 use mathlib.Core.Bool.{Bool, true, false, cond, ◌&&◌, and-false, false≢true}
 use mathlib.Core.List.{List, [], ◌∷◌, ◌++◌}
 use Prim.Native.Nat.{ℕ, zero, suc, ◌+◌, ◌-◌, ◌*◌, ◌≤◌, ◌<◌}
-use native.Mathlib.Nat.{add-zero, not-suc-le-zero, le_of_suc-le-suc}
+use native.Mathlib.Nat.{add-zero}
 use native.Mathlib.Omega.{arith}
 use lib.Dec.{leb, ltb, eqb}
 use lib.ListN.{length, get_or, drop}
 use lib.Seq.{drop-drop, get_or_at}
-use borrow.Author.Tests.{ltb-true, leb-true, eqb-true, eqb-false, eq-eqb, ne_eqb}
+use borrow.Author.Tests.{ltb-true, leb-true, eqb-true, eqb-false, eq-eqb}
 use Rattle.plan.specs.Measures.{element_count, plan_length, row_length, most_rows, row_start}
 use Rattle.plan.specs.declared.Kind.{Kind}
-use Rattle.plan.specs.Row.{Row, kind, word_a, word_b, costing, kind_table, kind_facts, fixed_cost, operand_count, is_chain, row_cost, between, sound_a, sound_b, elements_used, all_zero, keeps_table, odd_constant, sound_base, sound_span, sound_row}
+use Rattle.plan.specs.Row.{Row, kind, word_a, word_b, costing, kind_table, kind_facts, fixed_cost, operand_count, is_chain, row_cost, between, sound_a, sound_b, keeps_table, odd_constant, sound_base, sound_span, sound_row}
 use Rattle.plan.specs.Plan.{row_count, row, rows_from, first_rows, rows, sound_from, sound}
 use Rattle.plan.proofs.RowLaws.{row_at, length-row, word_at, rows-add, rows_next, length-rows, sound-append}
 
@@ -33,13 +33,6 @@ within : (least greatest n : ℕ) → between least greatest n ≡ true → (lea
 within least greatest n e =
     (leb-true least n (and_left (leb least n) (leb n greatest) e), leb-true n greatest (and_right (leb least n) (leb n greatest) e))
 
--- ---- zeros
-pub all-zero-next : (f : List ℕ) (i : ℕ) → i < length f → all_zero (drop i f) ≡ (eqb (get_or f i 0) 0 && all_zero (drop (suc i) f))
-unfolding all_zero
-all-zero-next [] i h = absurd (not-suc-le-zero h)
-all-zero-next (a ∷ f) zero h = refl
-all-zero-next (a ∷ f) (suc i) h = all-zero-next f i (le_of_suc-le-suc h)
-
 -- ---- the words of a row that keeps the table
 pub a_small : (r k a : ℕ) → r ≤ most_rows → sound_a r k a ≡ true → a < most_rows
 a_small r k a few e =
@@ -60,14 +53,6 @@ chain-lengths r k a chain e = within 1 16 a (sym (ap (λ b. cond b (between 1 16
 
 pub chain_length : (r k a : ℕ) → is_chain k ≡ true → sound_a r k a ≡ true → a ≤ 16
 chain_length r k a chain e = (chain-lengths r k a chain e).1
-
-pub used_most : (r k a : ℕ) → sound_a r k a ≡ true → elements_used k a ≤ 17
-used_most r k a e = used (eqb k 0) (is_chain k) refl
-  where
-    used : (constant chain : Bool) → is_chain k ≡ chain → cond constant 1 (cond chain (a + 1) 0) ≤ 17
-    used true chain _ = omega arith
-    used false true chain = omega (arith, chain_length r k a chain e)
-    used false false _ = omega arith
 
 -- The tests of the table, one by one.
 module _ (r : ℕ) (row : Row) (kept : keeps_table r row ≡ true) where
@@ -201,9 +186,6 @@ module _ (p : List ℕ) (r : ℕ) where
         → sound_base (first_rows r p) (row p r) ≡ cond b (odd_constant (get_or (first_rows r p) (word_a x) [])) true
     base_judged b e =
         ap (λ y. sound_base (first_rows r p) y) (sym same) ∙ ap (λ c. cond c (odd_constant (get_or (first_rows r p) (word_a x) [])) true) e
-
-    pub no_raise : (kind x ≡ 8 → ⊥) → sound_base (first_rows r p) (row p r) ≡ true
-    no_raise other = base_judged false (ne_eqb (kind x) 8 other)
 
     module _ (kept : keeps_table r (row p r) ≡ true) (raise : kind x ≡ 8) where
       pub base_earlier : word_a x < r

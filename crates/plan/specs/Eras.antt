@@ -2,7 +2,7 @@
 -- refuses and leaves. One chain's crossing is in chain's Crossing.antt, filling itself in Filling.antt. The width w is a parameter; the calls have w = 64.
 use Rattle.std.specs.Prelude.{Bool, cond, ◌||◌, List, [], ◌∷◌, ℕ, zero, suc, ◌-◌, ◌^◌, ◌<◌, eqb, ℤ, pos, ◌+ℤ◌, length, get_or}
 use Rattle.chain.specs.Crossing.{signed_step, crossing}
-use Rattle.plan.specs.declared.FillErasAnswer.{FillErasAnswer}
+use Rattle.plan.specs.Answers.{FillErasAnswer}
 use Rattle.plan.specs.Row.{Row, kind, first_element}
 use Rattle.plan.specs.Plan.{row_count, row, refusal}
 use Rattle.plan.specs.Points.{chain_of, shifted_plan}

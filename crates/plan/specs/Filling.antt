@@ -1,8 +1,6 @@
 -- What filling, cost and soundness answer, for all inputs and all refusals, and what filling leaves in table and plan.
 use Rattle.std.specs.Prelude.{cond, List, [], ◌∷◌, ◌++◌, ℕ, zero, suc, ◌+◌, ◌*◌, ◌/◌, min, eqb, length, drop}
-use Rattle.plan.specs.declared.FillAnswer.{FillAnswer}
-use Rattle.plan.specs.declared.CostAnswer.{CostAnswer}
-use Rattle.plan.specs.declared.SoundAnswer.{SoundAnswer}
+use Rattle.plan.specs.Answers.{FillAnswer, CostAnswer, SoundAnswer}
 use Rattle.plan.specs.Plan.{cost, refusal}
 use Rattle.plan.specs.Points.{root_value, shifted_plan}
 

@@ -4,6 +4,7 @@ pub mod Measures
 pub mod Row
 pub mod Plan
 pub mod Points
+pub mod Answers
 pub mod Filling
 pub mod Calls
 pub mod Eras

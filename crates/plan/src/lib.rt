@@ -2,6 +2,9 @@
 // The calls are in `plan_sound`, `plan_costs`, `plan_fill` and `plan_eras`, the work of a point in `plan_points`; formulas live above.
 #![tactic(auto)]
 
+ghost use Rattle.std.specs.Prelude.{◌≡◌};
+ghost use Rattle.plan.specs.Answers.{refusal_number};
+
 // The layout: words of a row, the place of its elements and their number, the place of its span, the rows, and the words of a plan.
 pub const ROW_WORDS: usize = 22;
 
@@ -15,7 +18,11 @@ pub const MOST_ROWS: usize = 128;
 
 pub const PLAN_WORDS: usize = 1 + MOST_ROWS * ROW_WORDS;
 
+// The words of a plan, lent as a whole.
+pub type PlanWords = [u64; PLAN_WORDS];
+
 // No text that a row came from ends past this many bytes.
+// Kept: `formula` has this limit as well; formulas live above plans, and a lent plan's spans need none of them.
 pub const LONGEST_TEXT: u64 = 1024;
 
 // What a row of a kind always costs, and how many operand rows it has.
@@ -25,35 +32,39 @@ pub struct Kind {
     pub operands: u64,
 }
 
-// The refusal's number and place, 0 and 0 for a sound plan.
-#[derive(Clone, Copy)]
-pub struct SoundAnswer {
-    pub number: u64,
-    pub place: u64,
+// Why a call on a plan refuses it.
+#[derive(Clone, Copy, Debug, PartialEq, Eq)]
+pub enum Refusal {
+    // Fewer words are lent than a plan has.
+    TooShort,
+    Unsound,
+    // Eras are counted for the root alone, and it is neither a constant nor a sum chain.
+    RootNotSum,
 }
 
-// The same with the plan's cost, 0 if refused.
-#[derive(Clone, Copy)]
-pub struct CostAnswer {
-    pub number: u64,
-    pub place: u64,
-    pub cost: u64,
+// The number by which 01 and document 02 name the refusal; its place is 0.
+impl From<Refusal> for u64 {
+    ghost from_gives = { λ refusal number. number ≡ refusal_number refusal };
+
+    fn from(refusal: Refusal) -> u64 {
+        match refusal {
+            Refusal::TooShort => 1,
+            Refusal::Unsound => 9,
+            Refusal::RootNotSum => 16,
+        }
+    }
 }
 
-// The same with the points written and the budget spent.
-#[derive(Clone, Copy)]
-pub struct FillAnswer {
-    pub number: u64,
-    pub place: u64,
+// The points that a fill has written, and the budget that it has spent.
+#[derive(Clone, Copy, Debug, PartialEq, Eq)]
+pub struct FilledPoints {
     pub points: usize,
     pub spent: u64,
 }
 
 // The same of filling with era count, and the crossings of the root over the points written, added up.
-#[derive(Clone, Copy)]
-pub struct FillErasAnswer {
-    pub number: u64,
-    pub place: u64,
+#[derive(Clone, Copy, Debug, PartialEq, Eq)]
+pub struct CountedPoints {
     pub points: usize,
     pub spent: u64,
     pub sum: i64,

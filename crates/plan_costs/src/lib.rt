@@ -2,16 +2,17 @@
 // Whether a plan is sound is checked in `plan_sound`; what a point costs beside, and how many are written, is for `plan_fill` and `plan_eras`.
 #![tactic(auto)]
 
-ghost use Rattle.std.specs.Prelude.{◌≡◌, true, ◌≤◌, ◌<◌, min, length};
-ghost use Rattle.plan.specs.Measures.{plan_length, row_length};
+ghost use Rattle.std.specs.Prelude.{◌≡◌, true, ◌≤◌, ◌<◌, length};
+ghost use Rattle.plan.specs.Measures.{row_length};
 ghost use Rattle.plan.specs.Row.{kind, word_b, row_cost};
 ghost use Rattle.plan.specs.Plan.{sound, cost};
+ghost use Rattle.plan.specs.Answers.{as_cost_answer};
 ghost use Rattle.plan.specs.Filling.{cost_answer};
 
-use plan::CostAnswer;
-use plan_rows::kinds::LITERAL_POWER;
+use plan::{PLAN_WORDS, PlanWords, Refusal};
+use plan_rows::kinds::{NoKind, RowKind};
 use plan_rows::{kinds, row};
-use plan_sound::refusal;
+use plan_sound::sound;
 
 // The cost of a row of a sound plan.
 pub fn row_cost(row: &[u64]) -> u64
@@ -20,57 +21,33 @@ pub fn row_cost(row: &[u64]) -> u64
     requires bound { kind row.now ≡ 7 → 1 ≤ word_b row.now }
     ensures { result ≡ row_cost row.now }
 {
-    let kind = row[0];
-    if kinds::is_chain(kind) {
-        return row[1];
+    match RowKind::try_from(row[0]) {
+        Ok(RowKind::SumChain | RowKind::ProductChain) => row[1],
+        Ok(RowKind::LiteralPower) => row[2] - 1,
+        Ok(kind) => kinds::facts(kind).cost,
+        Err(NoKind) => unreachable!(),
     }
-    if kind == LITERAL_POWER {
-        return row[2] - 1;
-    }
-    let facts = kinds::facts(kind);
-    facts.cost
 }
 
-pub fn plan_cost(plan: &[u64]) -> u64
-    requires plan_length_in_bounds { plan_length ≤ length plan.now }
-    requires plan_value { sound plan.now ≡ true }
+pub fn plan_cost(plan: &PlanWords) -> u64
+    requires { sound plan.now ≡ true }
     ensures value { result ≡ cost plan.now }
     ensures upper_bound { result ≤ 16384 }
 {
     let count = plan[0] as usize;
     let mut total = 0;
-    let mut r = 0;
-    while r < count {
+    for r in 0..count {
         total += row_cost(row(plan, r));
-        r += 1;
     }
     total
 }
 
-pub fn cost(plan: &[u64]) -> CostAnswer
-    ensures { result ≡ cost_answer plan.now }
+pub fn cost(plan: &[u64]) -> Result<u64, Refusal>
+    ensures { as_cost_answer result ≡ cost_answer plan.now }
 {
-    let number = refusal(plan);
-    if number != 0 {
-        return CostAnswer {
-            number,
-            place: 0,
-            cost: 0,
-        };
-    }
-    CostAnswer {
-        number: 0,
-        place: 0,
-        cost: plan_cost(plan),
-    }
-}
-
-// Of the points that the table has room for and those that the budget pays for, the fewer are written.
-pub fn lesser(a: usize, b: usize) -> usize
-    ensures { result ≡ min a b }
-{
-    if a < b {
-        return a;
-    }
-    b
+    let Some(words) = plan.first_chunk::<PLAN_WORDS>() else {
+        return Err(Refusal::TooShort);
+    };
+    sound(words)?;
+    Ok(plan_cost(words))
 }

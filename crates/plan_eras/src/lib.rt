@@ -1,25 +1,24 @@
 // Filling with era count: the points of a fill, and how often the root crossed the end of an era over them.
-// What one shift says of a chain is in `chain_arrays`; filling itself is in `plan_fill`, the work of a point in `plan_points`.
+// What one shift says of a chain is in `chain_arrays`; filling itself is in `plan_fill`, the points in `plan_points`.
 #![tactic(auto)]
 
-ghost use Rattle.std.specs.Prelude.{◌≡◌, true, ◌≤◌, length};
-ghost use Rattle.plan.specs.Measures.{plan_length, most_rows};
+ghost use Rattle.std.specs.Prelude.{◌≡◌, true, cond};
 ghost use Rattle.plan.specs.Plan.{sound};
-ghost use Rattle.plan.specs.Filling.{plan_after, point_values};
-ghost use Rattle.plan.specs.Eras.{root_chain, eras_over, eras_refusal, fill_eras};
+ghost use Rattle.plan.specs.Answers.{number_of, as_fill_eras_answer};
+ghost use Rattle.plan.specs.Eras.{root_row, root_chain, constant_or_sum, eras_refusal, fill_eras};
+ghost use Rattle.plan.proofs.EraLaws.{abs_crossing};
 ghost use Rattle.chain.specs.Crossing.{crossing};
 
 use chain_arrays::crossed;
-use plan::{ELEMENTS_START, FillErasAnswer, MOST_ROWS};
-use plan_costs::lesser;
+use plan::{CountedPoints, ELEMENTS_START, PLAN_WORDS, PlanWords, Refusal};
+use plan_points::Count;
 use plan_rows::kinds::{CONSTANT, SUM_CHAIN};
 use plan_rows::word;
-use plan_sound::refusal;
+use plan_sound::sound;
 
 // How the root of a sound plan crosses in the shift that follows; only a sum chain does.
-fn root_crossing(plan: &[u64]) -> i64
-    requires plan_length_in_bounds { plan_length ≤ length plan.now }
-    requires plan_value { sound plan.now ≡ true }
+fn root_crossing(plan: &PlanWords) -> i64
+    requires { sound plan.now ≡ true }
     ensures { result ≡ crossing 64 (root_chain plan.now) }
 {
     let root = plan[0] as usize - 1;
@@ -32,80 +31,50 @@ fn root_crossing(plan: &[u64]) -> i64
     )
 }
 
-// One point for each word of the table, as in a fill, and the root's crossings added up. The lent values are scratch.
-fn count_points(plan: &mut [u64], table: &mut [u64], values: &mut [u64]) -> i64
-    requires plan_length_in_bounds { plan_length ≤ length plan.old }
-    requires plan_value { sound plan.old ≡ true }
-    requires values_len { length values.old ≡ most_rows }
-    ensures value { result ≡ eras_over 64 (length table.old) plan.old }
-    ensures table_after { table.new ≡ point_values 64 (length table.old) plan.old }
-    ensures plan_after { plan.new ≡ plan_after 64 (length table.old) plan.old }
-{
-    let mut sum = 0i64;
-    let mut i = 0;
-    while i < table.len() {
-        table[i] = plan_points::root_value(plan, values);
-        sum += root_crossing(plan);
-        plan_points::shift_plan(plan);
-        i += 1;
+// What a fill with era count counts: the root's crossings.
+struct Crossings;
+
+impl Count for Crossings {
+    ghost counted = { λ plan. crossing 64 (root_chain plan) };
+
+    ghost at_most_one = { λ plan. abs_crossing 64 (root_chain plan) };
+
+    fn count(plan: &PlanWords) -> i64 {
+        root_crossing(plan)
     }
-    sum
 }
 
-fn count_table(plan: &mut [u64], table: &mut [u64]) -> i64
-    requires plan_length_in_bounds { plan_length ≤ length plan.old }
-    requires plan_value { sound plan.old ≡ true }
-    ensures value { result ≡ eras_over 64 (length table.old) plan.old }
-    ensures table_after { table.new ≡ point_values 64 (length table.old) plan.old }
-    ensures plan_after { plan.new ≡ plan_after 64 (length table.old) plan.old }
+// The root of a sound plan is refused if it is neither a constant nor a sum chain.
+fn root_refusal(plan: &PlanWords) -> Result<(), Refusal>
+    requires { sound plan.now ≡ true }
+    ensures { number_of result ≡ cond (constant_or_sum (root_row plan.now)) 0 16 }
 {
-    let mut values = [0; MOST_ROWS];
-    count_points(plan, table, &mut values)
-}
-
-// 1, then 9, then 16 for a root that is neither a constant nor a sum chain.
-fn eras_refusal(plan: &[u64]) -> u64
-    ensures { result ≡ eras_refusal plan.now }
-{
-    let judged = refusal(plan);
-    if judged != 0 {
-        return judged;
-    }
     let kind = word(plan, plan[0] as usize - 1, 0);
-    if kind == CONSTANT {
-        return 0;
+    if kind == CONSTANT || kind == SUM_CHAIN {
+        Ok(())
+    } else {
+        Err(Refusal::RootNotSum)
     }
-    if kind == SUM_CHAIN {
-        return 0;
-    }
-    16
+}
+
+// 1, then 9, then 16.
+#[tactic(auto, unfolding(plan::specs::Eras::eras_refusal))]
+fn eras_refusal(plan: &PlanWords) -> Result<(), Refusal>
+    ensures { number_of result ≡ eras_refusal plan.now }
+{
+    sound(plan)?;
+    root_refusal(plan)
 }
 
 // As many points as the table has room and the budget pays for, and the crossings of the root over them. A refused call changes nothing.
-pub fn fill_eras(plan: &mut [u64], table: &mut [u64], budget: u64) -> FillErasAnswer
-    ensures value { result ≡ (fill_eras 64 plan.old table.old budget).answer }
+pub fn fill_eras(plan: &mut [u64], table: &mut [u64], budget: u64) -> Result<CountedPoints, Refusal>
+    ensures value { as_fill_eras_answer result ≡ (fill_eras 64 plan.old table.old budget).answer }
     ensures table_after { table.new ≡ (fill_eras 64 plan.old table.old budget).table }
     ensures plan_after { plan.new ≡ (fill_eras 64 plan.old table.old budget).plan }
 {
-    let number = eras_refusal(plan);
-    if number != 0 {
-        return FillErasAnswer {
-            number,
-            place: 0,
-            points: 0,
-            spent: 0,
-            sum: 0,
-        };
-    }
-    let point_cost = plan_costs::plan_cost(plan) + 1;
-    let points = lesser(table.len(), (budget / point_cost) as usize);
-    let sum = count_table(plan, &mut table[0..points]);
-    let spent = points as u64 * point_cost;
-    FillErasAnswer {
-        number: 0,
-        place: 0,
-        points,
-        spent,
-        sum,
-    }
+    let Some(words) = plan.first_chunk_mut::<PLAN_WORDS>() else {
+        return Err(Refusal::TooShort);
+    };
+    eras_refusal(words)?;
+    Ok(plan_fill::fill_sound::<Crossings>(words, table, budget))
 }

@@ -1,65 +1,60 @@
-// Filling a table by a plan, for callers. Any words may be lent.
-// Whether a plan is sound is checked in `plan_sound`, cost is in `plan_costs`, the work of a point in `plan_points`, filling with era count in `plan_eras`; formulas live above.
+// Filling a table by a plan, for callers. Any words may be lent. What filling with and without era count have in common stands here once.
+// Whether a plan is sound is checked in `plan_sound`, cost is in `plan_costs`, the points in `plan_points`, what is counted with era count in `plan_eras`; formulas live above.
 #![tactic(auto)]
 
-ghost use Rattle.std.specs.Prelude.{◌≡◌, true, ◌≤◌, length};
-ghost use Rattle.plan.specs.Measures.{plan_length, most_rows};
+ghost use Rattle.std.specs.Prelude.{◌≡◌, true, ◌++◌, ◌*◌, pos, length, drop};
 ghost use Rattle.plan.specs.Plan.{sound};
-ghost use Rattle.plan.specs.Filling.{plan_after, point_values, fill};
+ghost use Rattle.plan.specs.Answers.{as_fill_answer};
+ghost use Rattle.plan.specs.Filling.{point_cost, points_for, plan_after, point_values, fill};
+ghost use Rattle.plan.proofs.Counting.{counted_over};
+ghost use Rattle.std.proofs.Common.{rules};
 
-use plan::{FillAnswer, MOST_ROWS};
-use plan_costs::lesser;
-use plan_sound::refusal;
+use plan::{CountedPoints, FilledPoints, PLAN_WORDS, PlanWords, Refusal};
+use plan_points::Count;
+use plan_sound::sound;
 
-// One point for each word of the table: the root's value, and then a shift of every chain. The lent values are scratch.
-fn fill_points(plan: &mut [u64], table: &mut [u64], values: &mut [u64])
-    requires plan_length_in_bounds { plan_length ≤ length plan.old }
-    requires plan_value { sound plan.old ≡ true }
-    requires values_len { length values.old ≡ most_rows }
-    ensures table_after { table.new ≡ point_values 64 (length table.old) plan.old }
-    ensures plan_after { plan.new ≡ plan_after 64 (length table.old) plan.old }
-{
-    let mut i = 0;
-    while i < table.len() {
-        table[i] = plan_points::root_value(plan, values);
-        plan_points::shift_plan(plan);
-        i += 1;
+// A fill without era count counts nothing.
+struct Nothing;
+
+impl Count for Nothing {
+    ghost counted = { λ _. pos 0 };
+
+    ghost at_most_one = { Prim.search rules };
+
+    fn count(_plan: &PlanWords) -> i64 {
+        0
     }
 }
 
-fn fill_table(plan: &mut [u64], table: &mut [u64])
-    requires plan_length_in_bounds { plan_length ≤ length plan.old }
-    requires plan_value { sound plan.old ≡ true }
-    ensures table_after { table.new ≡ point_values 64 (length table.old) plan.old }
-    ensures plan_after { plan.new ≡ plan_after 64 (length table.old) plan.old }
+// As many points of a sound plan as the table has room and the budget pays for, and what is counted at them.
+pub fn fill_sound<C: Count>(plan: &mut PlanWords, table: &mut [u64], budget: u64) -> CountedPoints
+    requires { sound plan.old ≡ true }
+    ensures points { result.points ≡ points_for plan.old (length table.old) budget }
+    ensures spent { result.spent ≡ result.points * point_cost plan.old }
+    ensures sum { result.sum ≡ counted_over C.counted 64 result.points plan.old }
+    ensures table_after { table.new ≡ point_values 64 result.points plan.old ++ drop result.points table.old }
+    ensures plan_after { plan.new ≡ plan_after 64 result.points plan.old }
 {
-    let mut values = [0; MOST_ROWS];
-    fill_points(plan, table, &mut values);
+    let point_cost = plan_costs::plan_cost(plan) + 1;
+    let points = table.len().min((budget / point_cost) as usize);
+    let sum = plan_points::write_points::<C>(plan, &mut table[0..points]);
+    let spent = points as u64 * point_cost;
+    CountedPoints { points, spent, sum }
 }
 
 // As many points as the table has room and the budget pays for. A refused call changes nothing.
-pub fn fill(plan: &mut [u64], table: &mut [u64], budget: u64) -> FillAnswer
-    ensures value { result ≡ (fill 64 plan.old table.old budget).answer }
+pub fn fill(plan: &mut [u64], table: &mut [u64], budget: u64) -> Result<FilledPoints, Refusal>
+    ensures value { as_fill_answer result ≡ (fill 64 plan.old table.old budget).answer }
     ensures table_after { table.new ≡ (fill 64 plan.old table.old budget).table }
     ensures plan_after { plan.new ≡ (fill 64 plan.old table.old budget).plan }
 {
-    let number = refusal(plan);
-    if number != 0 {
-        return FillAnswer {
-            number,
-            place: 0,
-            points: 0,
-            spent: 0,
-        };
-    }
-    let point_cost = plan_costs::plan_cost(plan) + 1;
-    let points = lesser(table.len(), (budget / point_cost) as usize);
-    fill_table(plan, &mut table[0..points]);
-    let spent = points as u64 * point_cost;
-    FillAnswer {
-        number: 0,
-        place: 0,
-        points,
-        spent,
-    }
+    let Some(words) = plan.first_chunk_mut::<PLAN_WORDS>() else {
+        return Err(Refusal::TooShort);
+    };
+    sound(words)?;
+    let filled = fill_sound::<Nothing>(words, table, budget);
+    Ok(FilledPoints {
+        points: filled.points,
+        spent: filled.spent,
+    })
 }

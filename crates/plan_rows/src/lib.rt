@@ -19,6 +19,7 @@ pub fn start(r: usize) -> usize
 }
 
 // Row r, to read.
+// Kept: (a) docs name `row` and `start` with this clause: a longer slice may be lent.
 pub fn row<'a>(plan: &'a [u64], r: usize) -> &'a [u64]
     requires plan_length_in_bounds { plan_length ≤ length plan.now }
     requires r_lt_most_rows { r < most_rows }

@@ -1,6 +1,6 @@
 -- Laws of the probe, over the width w wherever words are computed: uniqueness, the offset's range and meaning, the verdicts.
 -- `◌<ℤ◌` and `◌≤ℤ◌` are the library's orders on signed numbers.
-use Rattle.std.proofs.Common.{◌≡◌, ℕ, zero, suc, ◌+◌, ◌-◌, ◌%◌, ◌^◌, ◌<◌, ℤ, pos, negsuc, neg_ℤ, ◌≤ℤ◌, ◌<ℤ◌, refl, not-suc-le-zero, arith, ltb→lt, lt-ltb, ne_eqb}
+use Rattle.std.proofs.Common.{◌≡◌, ℕ, zero, suc, ◌+◌, ◌-◌, ◌%◌, ◌^◌, ◌<◌, ℤ, pos, negsuc, neg_ℤ, ◌≤ℤ◌, ◌<ℤ◌, refl, not-suc-le-zero, arith, ltb→lt, lt-ltb, ne_eqb, Result, Ok, Err, ap, ap₂, sym}
 use lib.Signed.{lt_z, clash_ℤ, lt_z_yes}
 use Rattle.word.specs.Word.{word, sum, difference}
 use Rattle.word.proofs.Ring.{word_fits, difference-sum}
@@ -8,14 +8,47 @@ use Rattle.word.specs.Signed.{half, word_of}
 use Rattle.word.proofs.SignedWords.{signed_range, signed_word}
 use Rattle.word.proofs.WholeNumbers.{passed, failed}
 use Rattle.word.proofs.Unique.{both_are}
-use Rattle.probe.specs.declared.Verdict.TheVariants.{Behind, Unset}
-use Rattle.probe.specs.declared.ProbeAnswer.{ProbeAnswer}
+use Rattle.probe.specs.declared.Verdict.{Verdict as Judgement}
+use Rattle.probe.specs.declared.Verdict.TheVariants as Judged
+use Rattle.probe.specs.declared.Reading.{Reading}
+use Rattle.probe.specs.declared.ToleranceTooLarge.{ToleranceTooLarge}
+use Rattle.probe.specs.Answer.{Behind, Unset, ProbeAnswer, as_verdict, as_probe_answer}
 use Rattle.probe.specs.Probe.{offset, verdict, accepted, probe_answer, ahead, behind, within, verdict_word}
 
 -- Any two answers that meet the contract are equal.
 pub probe_unique : (reading expected tolerance : ℕ) (r s : ProbeAnswer)
     → r ≡ probe_answer reading expected tolerance → s ≡ probe_answer reading expected tolerance → r ≡ s
 probe_unique reading expected tolerance r s = both_are
+
+-- A result is all that its record says: verdicts with one name are one verdict, and results with one record are one result.
+pub same-verdict : (v w : Judgement) → as_verdict v ≡ as_verdict w → v ≡ w
+same-verdict Judged.Within Judged.Within e = refl
+same-verdict Judged.Within Judged.Ahead e = cc
+same-verdict Judged.Within Judged.Behind e = cc
+same-verdict Judged.Within Judged.Unset e = cc
+same-verdict Judged.Ahead Judged.Within e = cc
+same-verdict Judged.Ahead Judged.Ahead e = refl
+same-verdict Judged.Ahead Judged.Behind e = cc
+same-verdict Judged.Ahead Judged.Unset e = cc
+same-verdict Judged.Behind Judged.Within e = cc
+same-verdict Judged.Behind Judged.Ahead e = cc
+same-verdict Judged.Behind Judged.Behind e = refl
+same-verdict Judged.Behind Judged.Unset e = cc
+same-verdict Judged.Unset Judged.Within e = cc
+same-verdict Judged.Unset Judged.Ahead e = cc
+same-verdict Judged.Unset Judged.Behind e = cc
+same-verdict Judged.Unset Judged.Unset e = refl
+
+accepted-or-refused : (number : ℕ) → number ≡ 0 → number ≡ 10 → ⊥
+accepted-or-refused number accepted refused = omega arith
+
+pub same-result : (r s : Result Reading ToleranceTooLarge) → as_probe_answer r ≡ as_probe_answer s → r ≡ s
+same-result (Ok r) (Ok s) e =
+    ap₂ {C = Result Reading ToleranceTooLarge} (λ offset verdict. Ok (record { offset = offset; verdict = verdict }))
+    (ap (λ (a : ProbeAnswer). a.offset) e) (same-verdict r.verdict s.verdict (ap (λ (a : ProbeAnswer). a.verdict) e))
+same-result (Ok r) (Err y) e = absurd (accepted-or-refused 0 refl (ap (λ (a : ProbeAnswer). a.number) e))
+same-result (Err x) (Ok s) e = absurd (accepted-or-refused 0 refl (ap (λ (a : ProbeAnswer). a.number) (sym e)))
+same-result (Err x) (Err y) e = refl
 
 -- ---- the offset
 difference_fits : (w reading expected : ℕ) → difference w reading expected < 2 ^ w

@@ -1,3 +1,2 @@
--- Laws of the probe, and what the proofs of the code say of its tests.
-pub mod Signs
+-- Laws of the probe.
 pub mod Laws

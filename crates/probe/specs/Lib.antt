@@ -1,2 +1,3 @@
--- What the contracts of `probe` cite: the signed offset, the verdict and the whole answer.
+-- What the contracts of `probe` cite: the answer as a record, the signed offset, the verdict and the whole answer.
+pub mod Answer
 pub mod Probe

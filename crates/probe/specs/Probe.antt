@@ -3,9 +3,7 @@
 use Rattle.std.specs.Prelude.{ℕ, Bool, true, cond, ◌&&◌, List, [], ◌∷◌, ℤ, pos, neg_ℤ, ◌==◌, int_lt, nat_lt}
 use Rattle.word.specs.Word.{difference}
 use Rattle.word.specs.Signed.{half, signed}
-use Rattle.probe.specs.declared.Verdict.{Verdict}
-use Rattle.probe.specs.declared.Verdict.TheVariants.{NoVerdict, Within, Ahead, Behind, Unset}
-use Rattle.probe.specs.declared.ProbeAnswer.{ProbeAnswer}
+use Rattle.probe.specs.Answer.{Verdict, NoVerdict, Within, Ahead, Behind, Unset, ProbeAnswer}
 
 -- "offset = reading - expected modulo 2^64, read as a signed number".
 abbrev pub offset : ℕ → ℕ → ℕ → ℤ

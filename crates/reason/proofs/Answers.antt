@@ -11,7 +11,7 @@ use Rattle.plan.specs.Row.{kind, first_byte, end_byte}
 use Rattle.plan.specs.Plan.{row_count, row, refusal}
 use Rattle.plan.proofs.Accepting.{accepted}
 use Rattle.fold.proofs.Rules.{picked}
-use Rattle.reason.specs.declared.ReasonAnswer.{ReasonAnswer}
+use Rattle.reason.specs.Answer.{ReasonAnswer}
 use Rattle.reason.specs.RowTrees.{row_tree}
 use Rattle.reason.specs.Reasons.{Reason}
 use Rattle.reason.specs.Explaining.{refusing, explaining, Explaining, refused, not-counted, no_operator, operator}

@@ -24,7 +24,7 @@ use Rattle.fold.proofs.Origins.{kind_of, word_a_of, word_b_of, root_words, opera
 use Rattle.fold.proofs.RowOrder.{Standing, front, later, root_stands, operands_stand}
 use Rattle.reason.specs.RowTrees.{span_in, operator_over, tree_over, tree_after, trees, row_tree}
 use Rattle.reason.specs.Reasons.{folded_again, Stays}
-use Rattle.reason.specs.declared.ReasonAnswer.{ReasonAnswer}
+use Rattle.reason.specs.Answer.{ReasonAnswer}
 use Rattle.reason.specs.Explaining.{Explaining, refused, not-counted, no_operator, operator}
 use Rattle.reason.proofs.TreeLaws.{earlier_tree}
 use Rattle.reason.proofs.OneReason.{only_folding}

@@ -21,7 +21,7 @@ use Rattle.reason.specs.Reasons.{Named, operand-stays, lengths-add, length-times
 use Rattle.reason.specs.Reasons.{Reason, would_fold, stays}
 use Rattle.reason.proofs.Operands.{Chain, a_constant, as_a_sum, a_product, chain-operand, no_chain, left-none, right-none}
 use Rattle.reason.proofs.Numbers.{seen, has_word, operates, has_operator, word-seen, operator-seen}
-use Rattle.reason.proofs.Numbers.{sum_folds, alike_folds, product_folds, minus_folds, power_folds, raise_folds, joined_number, judged}
+use Rattle.reason.proofs.Numbers.{sum_folds, alike_folds, product_folds, minus_folds, power_folds, raise_folds, judged}
 use Rattle.reason.proofs.Numbers.{sum_number, product_number, minus_number, power_number, raise_number, reason_of}
 use Rattle.reason.proofs.Staying.{passed, sum_facts, sum-stays, Unmultiplied, product_facts, product-stays}
 use Rattle.reason.proofs.Staying.{minus_facts, minus-stays, power_facts, power-stays, raise_facts, raise-stays}
@@ -50,7 +50,6 @@ by_operands P a b left right chains =
 -- ---- + and -
 module _ (w : ℕ) where
   sum_tells : {t a b : Folded} → PlusOrMinus t a b → Tells w t (sum_folds (seen a) (seen b))
-  unfolding sum_folds
   sum_tells {t} {a} {b} o =
       subst (Tells w t) (ap₂ ◌||◌ (words-seen 0 a b) (ap₂ ◌&&◌ (sum_test a) (sum_test b))) (
         λ e. let facts = sum_facts w o e in ap₂ ◌||◌ (ap₂ ◌||◌ facts.left facts.right) facts.sums,
@@ -73,7 +72,6 @@ module _ (w : ℕ) where
   sum_named o none (a_product f) (a_product g) = two_products (of_both o refl refl)
 
   sum_decided : {t a b : Folded} → PlusOrMinus t a b → Reason w t (sum_number (seen a) (seen b))
-  unfolding sum_number joined_number
   sum_decided {t} {a} {b} o =
       reason_judged (sum_folds (seen a) (seen b)) (sum_tells o)
       (λ e. by_operands (Named t) a b (λ l. operand-stays (left-stays (added o) l)) (λ r. operand-stays (right-stays (added o) r))
@@ -157,7 +155,6 @@ module _ (w : ℕ) (s : Spans) where
         (λ r _. product-stays w s a b (right_apart a b ones zeros r)) chain_products_kept
 
     product_tells : Tells w (product_row s a b) (product_folds (seen a) (seen b))
-    unfolding product_folds
     product_tells =
         subst (Tells w (product_row s a b)) (ap₂ (λ t u. t || (u || operands_fold)) (words-seen 1 a b) (words-seen 0 a b)) (
           λ e. let h = product_facts w s a b e in ap₂ ◌||◌ (ap₂ ◌||◌ h.left_one h.right_one) (ap₂ ◌||◌ h.zeros (operands_stay h)),
@@ -167,7 +164,6 @@ module _ (w : ℕ) (s : Spans) where
         )
 
     product_decided : Reason w (product_row s a b) (product_number (seen a) (seen b))
-    unfolding product_number joined_number
     product_decided =
         reason_judged (product_folds (seen a) (seen b)) product_tells
         (λ e. by_operands (Named (product_row s a b)) a b
@@ -182,7 +178,6 @@ by_operand P a operator chain =
 
 module _ (w : ℕ) (s : Span) where
   minus_decided : (a : Folded) → Reason w (minus_row s a) (minus_number (seen a))
-  unfolding minus_number
   minus_decided a =
       reason_judged (minus_folds (seen a))
       (subst (λ t. Tells w (minus_row s a) (not t)) (operator-seen a) (
@@ -211,7 +206,6 @@ module _ (w : ℕ) (s : Span) where
     chain-power-kept (a_product f) e = absurd (true≢false e)
 
     power_decided : (a : Folded) → Reason w (power_row s a n) (power_number (seen a) n)
-    unfolding power_number power_folds
     power_decided a =
         reason_judged (power_folds (seen a) n) (
           λ e. by_operand (λ t. t ≡ false) a (λ _. refl) (λ A. (chain-power-stays e A).0),
@@ -221,7 +215,6 @@ module _ (w : ℕ) (s : Span) where
         ) (λ e. by_operand (Named (power_row s a n)) a (λ operator. operand-stays (under-power s a n operator)) (λ A. (chain-power-stays e A).1))
 
 raise_decided : (w : ℕ) (s : Spans) (c : ℕ) (b : Folded) → Reason w (raise_row s (constant c) b) (raise_number (seen b))
-unfolding raise_number
 raise_decided w s c b =
     reason_judged (raise_folds (seen b)) (subst (Tells w (raise_row s (constant c) b)) (sum_test b) (raise_facts w s c b, raise-stays w s c b))
     (λ e. exponent-neither (of_raise s (constant c) b (raise_facts w s c b e)))

@@ -7,5 +7,6 @@ pub mod OneReason
 pub mod TreeLaws
 pub mod SoundRows
 pub mod Answers
+pub mod Decoding
 pub mod Settled
 pub mod CompiledRows

@@ -45,14 +45,14 @@ operator-seen (raise_row s a b) = refl
 
 -- ---- whether 01 folds the row
 -- Under + and -: a 0, or two constants or sum chains.
-unfoldable pub sum_folds : Seen → Seen → Bool
+abbrev pub sum_folds : Seen → Seen → Bool
 sum_folds a b = has_word 0 a b || (ltb a.kind 2 && ltb b.kind 2)
 
 -- Under *: a 1, a 0; of constants and chains those of one kind, sum chains if they are not too long together, and a constant with any.
 abbrev pub alike_folds : Seen → Seen → Bool
 alike_folds a b = cond (eqb a.kind 1) (leb (a.length + b.length) 16) true
 
-unfoldable pub product_folds : Seen → Seen → Bool
+abbrev pub product_folds : Seen → Seen → Bool
 product_folds a b =
     has_word 1 a b
     || (has_word 0 a b || cond (has_operator a b) false (cond (eqb a.kind b.kind) (alike_folds a b) (eqb a.kind 0 || eqb b.kind 0)))
@@ -61,7 +61,7 @@ product_folds a b =
 abbrev pub minus_folds : Seen → Bool
 minus_folds a = not (operates a)
 
-unfoldable pub power_folds : Seen → ℕ → Bool
+abbrev pub power_folds : Seen → ℕ → Bool
 power_folds a n = cond (operates a) false (cond (eqb a.kind 1) (leb (a.length * n) 16) true)
 
 -- A raise of a constant: by a constant or a sum chain.
@@ -70,7 +70,7 @@ raise_folds b = ltb b.kind 2
 
 -- ---- the number where it doesn't
 -- Under + - and *: one operand is an operator, or both are chains of kind k, or a sum chain or constant stands against a product chain.
-unfoldable pub joined_number : (k n : ℕ) → Seen → Seen → ℕ
+abbrev pub joined_number : (k n : ℕ) → Seen → Seen → ℕ
 joined_number k n a b = cond (has_operator a b) 1 (cond (eqb a.kind k && eqb b.kind k) n 4)
 
 abbrev pub power_other : Seen → ℕ
@@ -80,19 +80,19 @@ power_other a = cond (operates a) 1 3
 abbrev pub judged : Bool → ℕ → ℕ
 judged folds other = cond folds 7 other
 
-unfoldable pub sum_number : Seen → Seen → ℕ
+abbrev pub sum_number : Seen → Seen → ℕ
 sum_number a b = judged (sum_folds a b) (joined_number 2 5 a b)
 
-unfoldable pub product_number : Seen → Seen → ℕ
+abbrev pub product_number : Seen → Seen → ℕ
 product_number a b = judged (product_folds a b) (joined_number 1 2 a b)
 
-unfoldable pub minus_number : Seen → ℕ
+abbrev pub minus_number : Seen → ℕ
 minus_number a = judged (minus_folds a) 1
 
-unfoldable pub power_number : Seen → ℕ → ℕ
+abbrev pub power_number : Seen → ℕ → ℕ
 power_number a n = judged (power_folds a n) (power_other a)
 
-unfoldable pub raise_number : Seen → ℕ
+abbrev pub raise_number : Seen → ℕ
 raise_number b = judged (raise_folds b) 6
 
 -- The number of a row; a constant and a chain have none.

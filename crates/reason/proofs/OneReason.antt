@@ -35,12 +35,10 @@ module _ (a : Folded) where
 -- The number of + - and *, by what the tests say; k is the kind of which both operands would be, and n their number.
 module _ (k n : ℕ) (a b : Folded) where
   operator-joined : (is_operator a || is_operator b) ≡ true → 1 ≡ joined_number k n (seen a) (seen b)
-  unfolding joined_number
   operator-joined e = sym (ap (λ t. cond t 1 (cond (eqb (kind_of a) k && eqb (kind_of b) k) n 4)) (sym (ap₂ ◌||◌ (operator-seen a) (operator-seen b)) ∙ e))
 
   module _ (left : is_operator a ≡ false) (right : is_operator b ≡ false) where
     chains_joined : (t : Bool) → (eqb (kind_of a) k && eqb (kind_of b) k) ≡ t → joined_number k n (seen a) (seen b) ≡ cond t n 4
-    unfolding joined_number
     chains_joined t e = ap₂ (λ t u. cond t 1 (cond u n 4)) (ap₂ ◌||◌ (sym (operator-seen a) ∙ left) (sym (operator-seen b) ∙ right)) e
 
 -- Both operands are product chains, or sum chains.

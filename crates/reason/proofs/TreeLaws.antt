@@ -75,7 +75,7 @@ operator_seen k = record { kind = k; length = 0; first = 0 }
 abbrev pub chain_seen : ℕ → ℕ → ℕ → Seen
 chain_seen k n c = cond (eqb n 0) (constant_seen c) (record { kind = k; length = n; first = c })
 
-unfoldable pub seen_in : Row → Seen
+abbrev pub seen_in : Row → Seen
 seen_in x =
     cond (eqb (kind x) 0) (constant_seen (first_element x))
     (cond (eqb (kind x) 1) (chain_seen 1 (length (trimmed 0 (chain_of x)) - 1) (first_element x))
@@ -138,7 +138,7 @@ module _ (s : Spans) (left right : Folded) (x : Row) where
 
   -- What is seen of the tree is what its row's words tell.
   pub seen_in_row : length x ≡ row_length → kind x < 9 → seen (tree_over s left right x) ≡ seen_in x
-  unfolding operator_over tree_over seen_in kind_of
+  unfolding operator_over tree_over kind_of
   seen_in_row long known =
       picked_both Agree (eqb (kind x) 0) (λ e. refl)
       (λ n₀. picked_both Agree (eqb (kind x) 1)

@@ -2,7 +2,7 @@
 use Rattle.std.specs.Prelude.{◌≡◌, List, ℕ, ◌≤◌, ◌<◌}
 use Rattle.plan.specs.Row.{kind, first_byte, end_byte}
 use Rattle.plan.specs.Plan.{row_count, row, refusal}
-use Rattle.reason.specs.declared.ReasonAnswer.{ReasonAnswer}
+use Rattle.reason.specs.Answer.{ReasonAnswer}
 use Rattle.reason.specs.RowTrees.{row_tree}
 use Rattle.reason.specs.Reasons.{Reason}
 

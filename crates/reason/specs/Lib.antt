@@ -2,4 +2,5 @@
 pub mod RowTrees
 pub mod Reasons
 pub mod Wording
+pub mod Answer
 pub mod Explaining

@@ -6,22 +6,24 @@
 mod operands;
 
 ghost use Rattle.std.specs.Prelude.{◌≡◌, true, ◌≤◌, ◌<◌, length};
-ghost use Rattle.plan.specs.Measures.{plan_length, row_length};
-ghost use Rattle.plan.specs.Row.{first_byte, end_byte};
+ghost use Rattle.plan.specs.Measures.{plan_length};
 ghost use Rattle.plan.specs.Plan.{row_count, row, sound};
-ghost use Rattle.reason.specs.Explaining.{refusing, Explaining};
+ghost use Rattle.reason.specs.Answer.{number_or_0, as_reason_answer};
+ghost use Rattle.reason.specs.Explaining.{Explaining};
 ghost use Rattle.reason.proofs.TreeLaws.{seen_in};
 ghost use Rattle.reason.proofs.SoundRows.{row_reason};
 
 use operands::seen;
-use plan::SPAN_START;
-use plan_rows::kinds::{LITERAL_POWER, MINUS, PRODUCT, RAISE, SUM};
+use plan::{Refusal, SPAN_START};
+use plan_rows::kinds::{NoKind, RowKind};
 use plan_rows::row;
-use plan_sound::refusal;
-use reason::{ReasonAnswer, Seen};
+use plan_sound::sound;
+use reason::{Explained, Reason, Seen};
 use reason_numbers::{minus_reason, power_reason, product_reason, raise_reason, sum_reason};
 
 // What the rules see of row r of a sound plan.
+// Kept: `plan` is a slice here and in `row_reason`: `reason` promises `Explaining` of all words lent, so an array of a plan's words would need laws that
+// rows and trees are those of the first words.
 fn operand(plan: &[u64], r: usize) -> Seen
     requires plan_length_in_bounds { plan_length ≤ length plan.now }
     requires plan_value { sound plan.now ≡ true }
@@ -32,75 +34,43 @@ fn operand(plan: &[u64], r: usize) -> Seen
     seen(row(plan, r))
 }
 
-// The reason of row r of a sound plan, 0 for a constant or a chain.
-pub fn row_reason(plan: &[u64], r: usize) -> u64
+// The reason of row r of a sound plan, none for a constant or a chain.
+pub fn row_reason(plan: &[u64], r: usize) -> Option<Reason>
     requires plan_length_in_bounds { plan_length ≤ length plan.now }
     requires plan_value { sound plan.now ≡ true }
     requires r_bound { r < row_count plan.now }
-    ensures { result ≡ row_reason plan.now r }
+    ensures { number_or_0 result ≡ row_reason plan.now r }
 {
     let words = row(plan, r);
-    let kind = words[0];
-    if kind < SUM {
-        return 0;
-    }
+    let a = words[1] as usize;
     let b = words[2] as usize;
-    let left = operand(plan, words[1] as usize);
-    if kind == MINUS {
-        return minus_reason(left);
-    }
-    if kind == LITERAL_POWER {
-        return power_reason(left, b);
-    }
-    let right = operand(plan, b);
-    if kind == PRODUCT {
-        return product_reason(left, right);
-    }
-    if kind == RAISE {
-        return raise_reason(right);
-    }
-    sum_reason(left, right)
+    Some(match RowKind::try_from(words[0]) {
+        Ok(RowKind::Sum | RowKind::Difference) => sum_reason(operand(plan, a), operand(plan, b)),
+        Ok(RowKind::Product) => product_reason(operand(plan, a), operand(plan, b)),
+        Ok(RowKind::Minus) => minus_reason(operand(plan, a)),
+        Ok(RowKind::LiteralPower) => power_reason(operand(plan, a), b),
+        Ok(RowKind::Raise) => raise_reason(operand(plan, b)),
+        Ok(RowKind::Constant | RowKind::SumChain | RowKind::ProductChain) => return None,
+        Err(NoKind) => unreachable!(),
+    })
 }
 
-// A reason beside the row's span.
-fn explained(row: &[u64], reason: u64) -> ReasonAnswer
-    requires { length row.now ≡ row_length }
-    ensures { result ≡ record { number = 0; place = 0; reason = reason; first = first_byte row.now; end = end_byte row.now } }
+// The reason and the span of row r; nothing for a row that the plan doesn't count.
+pub fn reason(plan: &[u64], r: usize) -> Result<Explained, Refusal>
+    ensures { Explaining 64 plan.now r (as_reason_answer result) }
 {
-    let first = row[SPAN_START];
-    let end = row[SPAN_START + 1];
-    ReasonAnswer {
-        number: 0,
-        place: 0,
-        reason,
-        first,
-        end,
-    }
-}
-
-// A number, and nothing else.
-fn nothing(number: u64) -> ReasonAnswer
-    ensures { result ≡ refusing number }
-{
-    ReasonAnswer {
-        number,
-        place: 0,
-        reason: 0,
-        first: 0,
-        end: 0,
-    }
-}
-
-// The reason and the span of row r; all 0 for a row that the plan doesn't count.
-pub fn reason(plan: &[u64], r: usize) -> ReasonAnswer
-    ensures { Explaining 64 plan.now r result }
-{
-    let number = refusal(plan);
-    if number != 0 {
-        return nothing(number);
-    }
+    sound(plan)?;
     if plan[0] as usize <= r {
-        return nothing(0);
+        return Ok(Explained {
+            reason: None,
+            first: 0,
+            end: 0,
+        });
     }
-    explained(row(plan, r), row_reason(plan, r))
+    let words = row(plan, r);
+    Ok(Explained {
+        reason: row_reason(plan, r),
+        first: words[SPAN_START],
+        end: words[SPAN_START + 1],
+    })
 }

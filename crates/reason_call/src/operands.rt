@@ -18,14 +18,8 @@ fn trimmed_length(row: &[u64], unit: u64) -> usize
     ensures value { result ≡ length (trimmed unit (chain_of row.now)) - 1 }
     ensures upper_bound { result ≤ 16 }
 {
-    let mut last = row[1] as usize;
-    while 0 < last {
-        if row[ELEMENTS_START + last] != unit {
-            return last;
-        }
-        last -= 1;
-    }
-    0
+    let last = ELEMENTS_START + row[1] as usize;
+    chain_arrays::trimmed_length(&row[ELEMENTS_START..=last], unit)
 }
 
 // A chain of length 0 is a constant.
@@ -33,15 +27,8 @@ fn chain(kind: u64, length: usize, first: u64) -> Seen
     ensures value { result ≡ chain_seen kind length first }
     ensures length_in_bounds { result.length ≤ length }
 {
-    if length == 0 {
-        return Seen {
-            kind: CONSTANT,
-            length: 0,
-            first,
-        };
-    }
     Seen {
-        kind,
+        kind: if length == 0 { CONSTANT } else { kind },
         length,
         first,
     }
@@ -54,23 +41,16 @@ pub fn seen(row: &[u64]) -> Seen
     ensures value { result ≡ seen_in row.now }
     ensures length_bound { result.length ≤ 16 }
 {
-    let kind = row[0];
     let first = row[ELEMENTS_START];
-    if kind == CONSTANT {
-        return chain(kind, 0, first);
-    }
-    if kind == SUM_CHAIN {
-        return chain(kind, trimmed_length(row, 0), first);
-    }
-    if kind != PRODUCT_CHAIN {
-        return Seen {
+    match row[0] {
+        CONSTANT => chain(CONSTANT, 0, first),
+        SUM_CHAIN => chain(SUM_CHAIN, trimmed_length(row, 0), first),
+        PRODUCT_CHAIN if first == 0 => chain(PRODUCT_CHAIN, 0, 0),
+        PRODUCT_CHAIN => chain(PRODUCT_CHAIN, trimmed_length(row, 1), first),
+        kind => Seen {
             kind,
             length: 0,
             first: 0,
-        };
+        },
     }
-    if first == 0 {
-        return chain(kind, 0, 0);
-    }
-    chain(kind, trimmed_length(row, 1), first)
 }

@@ -4,3 +4,4 @@ pub mod PartsInLines
 pub mod PartsJudged
 pub mod NumbersJudged
 pub mod Digits
+pub mod Answered

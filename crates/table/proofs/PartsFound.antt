@@ -1,18 +1,14 @@
--- What stands before and after the first byte of a kind, found by its place, and the fields between tabs.
-use mathlib.Core.Path.{◌≡◌, refl, sym, ap, subst, ◌∙◌}
+-- What stands before and after the first byte of a kind, found by its place.
+use mathlib.Core.Path.{◌≡◌, refl, sym, ap, ◌∙◌}
 use mathlib.Core.Bool.{Bool, true, false, cond}
 use mathlib.Core.List.{List, [], ◌∷◌}
-use Prim.Native.Nat.{ℕ, zero, suc, ◌+◌, ◌-◌, ◌≤◌, ◌<◌}
-use native.Mathlib.Numerals.{add-one, unary_clauses}
+use Prim.Native.Nat.{ℕ, suc, ◌+◌, ◌-◌, ◌≤◌}
 use native.Mathlib.Omega.{arith}
 use lib.Dec.{eqb}
-use lib.ListN.{length, get_or, take, drop, length-drop, drop_of_length-le}
+use lib.ListN.{length, take, drop, length-drop}
 use lib.Seq.{drop-drop}
-use borrow.Author.Tests.{eq-eqb, ne_eqb}
-use Rattle.formula.specs.Refusals.{count}
-use Rattle.formula_scan.proofs.BracketCount.{count_next}
 use Rattle.table.specs.NumberField.{is_empty}
-use Rattle.table.specs.Parts.{tab, before, after, after_tabs}
+use Rattle.table.specs.Parts.{before, after}
 
 -- ---- the parts by their lengths
 pub before_shorter : (b : ℕ) (s : List ℕ) → length (before b s) ≤ length s
@@ -72,53 +68,3 @@ empty_none (c ∷ s) e = absurd (omega arith)
 pub empty_some : (s : List ℕ) → (length s ≡ 0 → ⊥) → is_empty s ≡ false
 empty_some [] h = absurd (h refl)
 empty_some (c ∷ s) h = refl
-
--- ---- bytes counted
-pub count-here : (b : ℕ) (l : List ℕ) (i : ℕ) → i < length l → get_or l i 0 ≡ b → count b (take (i + 1) l) ≡ count b (take i l) + 1
-count-here b l i h e = sym (count_next b l i h refl) ∙ rw (eq-eqb (get_or l i 0) b e)
-
-pub count_other : (b : ℕ) (l : List ℕ) (i : ℕ) → i < length l → (get_or l i 0 ≡ b → ⊥) → count b (take (i + 1) l) ≡ count b (take i l)
-count_other b l i h other = sym (count_next b l i h refl) ∙ rw (ne_eqb (get_or l i 0) b other)
-
--- ---- behind the tabs
--- What stands after the first n tabs begins at a place.
-pub record BehindTabs (l : List ℕ) (n at : ℕ) : Type 0 where
-  pub inside : at ≤ length l
-  pub rest : drop at l ≡ after_tabs n l
-
-pub behind-none : (l : List ℕ) → BehindTabs l 0 0
-unfolding after_tabs
-behind-none l = record { inside = omega arith; rest = refl }
-
-pub behind-whole : (l : List ℕ) (n tabs at : ℕ) → n ≡ tabs → BehindTabs l n at → BehindTabs l tabs at
-behind-whole l n tabs at e so = subst (λ k. BehindTabs l k at) e so
-
-none_later : (l : List ℕ) (n more : ℕ) → after_tabs n l ≡ [] → after_tabs (n + more) l ≡ []
-unfolding after after_tabs
-none_later l n zero e = simp unary_clauses e
-none_later l n (suc more) e = simp unary_clauses (ap (λ s. after tab s) (none_later l n more e))
-
-module _ (l : List ℕ) (n at end : ℕ) (so : BehindTabs l n at) (found : end ≡ at + length (before tab (drop at l))) where
-  after_next : drop (end + 1) l ≡ after_tabs (n + 1) l
-  unfolding after_tabs
-  after_next =
-      ap (λ k. drop (k + 1) l) found
-      ∙ found_after tab l at so.inside
-      ∙ ap (λ s. after tab s) so.rest
-      ∙ ap (λ k. after_tabs k l) (sym (add-one n))
-
-  pub behind-next : end < length l → BehindTabs l (n + 1) (end + 1)
-  behind-next h = record { inside = omega arith; rest = after_next }
-
-  -- No further tab: nothing stands after the next ones.
-  pub behind-all : (tabs : ℕ) → n < tabs → end ≡ length l → BehindTabs l tabs end
-  behind-all tabs h e = record {
-    inside = omega arith;
-    rest = drop_of_length-le l {i = end} (omega arith) ∙ sym (ap (λ k. after_tabs k l) more ∙ none_later l (n + 1) (tabs - (n + 1)) none);
-  }
-    where
-      more : tabs ≡ n + 1 + (tabs - (n + 1))
-      more = omega arith
-
-      none : after_tabs (n + 1) l ≡ []
-      none = sym after_next ∙ drop_of_length-le l {i = end + 1} (omega arith)

@@ -3,26 +3,26 @@ use mathlib.Core.Path.{◌≡◌, refl, sym, ap, ap₂, subst, ◌∙◌}
 use mathlib.Core.Bool.{Bool, true, false, cond, ◌&&◌, false≢true}
 use mathlib.Core.List.{List, [], ◌∷◌}
 use Prim.Native.Nat.{ℕ, zero, suc, ◌+◌, ◌^◌, ◌≤◌, ◌<◌}
-use native.Mathlib.Numerals.{add-one}
 use native.Mathlib.Omega.{arith}
 use lib.Dec.{eqb, ltb, leb}
-use lib.ListN.{length, get_or, take, drop}
-use lib.Seq.{drop-cons, take_all, length-take-le}
-use borrow.Author.Tests.{eqb-true, eq-eqb, lt-ltb, ltb-true, ltb-false, leb-true}
+use lib.ListN.{length, take}
+use lib.Pointwise.{pointwise}
+use lib.Seq.{take_all, length-take-le}
+use borrow.Author.Tests.{eqb-true, eq-eqb, ne_eqb, lt-ltb, ltb-true, ltb-false, leb-true}
 use Rattle.formula.specs.Bytes.{digits_from}
-use Rattle.table.specs.NumberField.{is_empty, is_number, number_up_to}
-use Rattle.table.specs.declared.FieldNumber.{FieldNumber}
-use Rattle.table.specs.declared.DefaultsLine.{DefaultsLine}
-use Rattle.table.specs.declared.JobLine.{JobLine}
+use Rattle.table.specs.NumberField.{FieldNumber, is_empty, is_number, number_up_to}
 use Rattle.table.specs.Parts.{field, picked}
-use Rattle.table.specs.Judged.{header_line, same_bytes, is_header, is_misshapen, largest_word, most_points, bad_number, empty_field}
-use Rattle.table.specs.Judged.{judged_defaults, job_refused, judged_numbers, judged_job}
+use Rattle.table.specs.Judged.{header_line, same_bytes, is_header, is_misshapen, largest_word, most_points, bad_number, empty_field, defaults_at}
+use Rattle.table.specs.Judged.{DefaultsLine, JobLine, judged_defaults, job_refused, judged_numbers, judged_job}
 
 -- ---- the same bytes
-pub same_next : (s r : List ℕ) (i : ℕ) → i < length s → i < length r
-    → same_bytes (drop i s) (drop i r) ≡ (eqb (get_or s i 0) (get_or r i 0) && same_bytes (drop (i + 1) s) (drop (i + 1) r))
+-- The library's test of two texts is the same.
+pub same_pointwise : (s r : List ℕ) → pointwise eqb s r ≡ same_bytes s r
 unfolding same_bytes
-same_next s r i h k = rw (drop-cons s i 0 h, drop-cons r i 0 k, add-one i)
+same_pointwise [] [] = refl
+same_pointwise [] (b ∷ r) = refl
+same_pointwise (a ∷ s) [] = refl
+same_pointwise (a ∷ s) (b ∷ r) = ap (λ t. eqb a b && t) (same_pointwise s r)
 
 pub same_equal : (s r : List ℕ) → same_bytes s r ≡ true → s ≡ r
 unfolding same_bytes
@@ -81,9 +81,17 @@ empty_found l (suc (suc (suc (suc zero)))) low high so here =
     rw (so 1 (omega arith) (omega arith), so 2 (omega arith) (omega arith), so 3 (omega arith) (omega arith), here)
 empty_found l (suc (suc (suc (suc (suc n))))) low high so here = absurd (omega arith)
 
-pub empty_nowhere : (l : List ℕ) (n : ℕ) → 5 ≤ n → NoneEmpty l n → 0 ≡ empty_field l
-empty_nowhere l n high so =
+pub empty_nowhere : (l : List ℕ) → NoneEmpty l 5 → empty_field l ≡ 0
+empty_nowhere l so =
     rw (so 1 (omega arith) (omega arith), so 2 (omega arith) (omega arith), so 3 (omega arith) (omega arith), so 4 (omega arith) (omega arith))
+
+-- The line is refused at the leftmost empty field, and taken if there is none.
+pub empty_refused : (l : List ℕ) (n : ℕ) → 1 ≤ n → n < 5 → NoneEmpty l n → is_empty (field n l) ≡ true
+    → record { ok = false; place = n } ≡ defaults_at (empty_field l)
+empty_refused l n low high so here = rw (← empty_found l n low high so here, ne_eqb n 0 (λ e. omega arith))
+
+pub none_refused : (l : List ℕ) → NoneEmpty l 5 → record { ok = true; place = 0 } ≡ defaults_at (empty_field l)
+none_refused l so = rw (empty_nowhere l so)
 
 -- ---- a line counts only by its first 4,097 bytes
 -- What is the same for all lines over 4,096 bytes is decided by a line's first 4,097.

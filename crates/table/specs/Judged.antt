@@ -1,8 +1,9 @@
 -- What is judged of a header line, a defaults line and a job line, in the order of document 01's checks.
-use Rattle.std.specs.Prelude.{Bool, true, false, cond, not, ◌&&◌, ◌||◌, List, [], ◌∷◌, ℕ, ◌-◌, ◌^◌, eqb, ltb, length}
+use Rattle.std.specs.Prelude.{Bool, true, false, cond, not, ◌&&◌, ◌||◌, List, [], ◌∷◌, ℕ, ◌-◌, ◌^◌, eqb, ltb, length, Result, Ok, Err}
 use Rattle.table.specs.NumberField.{is_empty, number_up_to}
-use Rattle.table.specs.declared.DefaultsLine.{DefaultsLine}
-use Rattle.table.specs.declared.JobLine.{JobLine}
+use Rattle.table.specs.declared.BadLine.{BadLine}
+use Rattle.table.specs.declared.BadLine.TheVariants.{Misshapen, Formula, Start, Step, Count}
+use Rattle.table.specs.declared.Job.{Job}
 use Rattle.table.specs.Parts.{field, field_count, picked}
 
 -- "a line `chain-jobs`, tab, `1`"
@@ -48,6 +49,26 @@ empty_field l =
     (cond (is_empty (field 4 l)) 4 0)))
 
 -- ---- refused 11 at a place, or taken
+pub record DefaultsLine : Type 0 where
+  pub ok : Bool
+  pub place : ℕ
+
+-- A job line that is taken has the numbers of its fields.
+pub record JobLine : Type 0 where
+  pub ok : Bool
+  pub place : ℕ
+  pub start : ℕ
+  pub step : ℕ
+  pub count : ℕ
+
+-- The place of a refusal, as the code names it: "place 0", or the field's number.
+abbrev pub bad_place : BadLine → ℕ
+bad_place Misshapen = 0
+bad_place Formula = 1
+bad_place Start = 2
+bad_place Step = 3
+bad_place Count = 4
+
 abbrev pub defaults_at : ℕ → DefaultsLine
 defaults_at place = cond (eqb place 0) (record { ok = true; place = 0 }) (record { ok = false; place = place })
 
@@ -60,6 +81,15 @@ judged_defaults l =
 
 abbrev pub job_refused : ℕ → JobLine
 job_refused place = record { ok = false; place = place; start = 0; step = 0; count = 0 }
+
+-- What an answer of the code says, of a defaults line and of a job line.
+abbrev pub as_defaults_line : Result (Unit {0}) BadLine → DefaultsLine
+as_defaults_line (Ok taken) = record { ok = true; place = 0 }
+as_defaults_line (Err bad) = record { ok = false; place = bad_place bad }
+
+abbrev pub as_job_line : Result Job BadLine → JobLine
+as_job_line (Ok job) = record { ok = true; place = 0; start = job.start; step = job.step; count = job.count }
+as_job_line (Err bad) = job_refused (bad_place bad)
 
 abbrev pub judged_numbers : List ℕ → List ℕ → List ℕ → JobLine
 judged_numbers start step count =

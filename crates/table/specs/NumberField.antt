@@ -1,7 +1,16 @@
 -- The number that a field of a line holds, if it holds one that is small enough.
-use Rattle.std.specs.Prelude.{Bool, true, false, cond, ◌&&◌, ◌||◌, List, [], ◌∷◌, ℕ, leb}
+use Rattle.std.specs.Prelude.{Bool, true, false, cond, ◌&&◌, ◌||◌, List, [], ◌∷◌, ℕ, leb, Option, Some, None}
 use Rattle.formula.specs.Bytes.{digits_from}
-use Rattle.table.specs.declared.FieldNumber.{FieldNumber}
+
+-- Whether a field holds a number that is small enough, and the number; 0 if it doesn't.
+pub record FieldNumber : Type 0 where
+  pub ok : Bool
+  pub value : ℕ
+
+-- What an answer of the code says.
+abbrev pub as_field_number : Option ℕ → FieldNumber
+as_field_number None = record { ok = false; value = 0 }
+as_field_number (Some v) = record { ok = true; value = v }
 
 unfoldable pub all_digits : List ℕ → Bool
 all_digits [] = true

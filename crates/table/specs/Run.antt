@@ -11,9 +11,8 @@ use Rattle.reason.specs.RowTrees.{row_tree}
 use Rattle.reason.specs.Reasons.{Reason}
 use Rattle.table.specs.declared.Tool.{Tool}
 use Rattle.table.specs.declared.Tool.TheVariants.{Tables, Reasons}
-use Rattle.table.specs.declared.JobLine.{JobLine}
 use Rattle.table.specs.Parts.{lines, picked}
-use Rattle.table.specs.Judged.{is_header, judged_defaults, judged_job}
+use Rattle.table.specs.Judged.{is_header, JobLine, judged_defaults, judged_job}
 use Rattle.table.specs.Lines.{no_line, job_line, point_lines, row_line, direct_values}
 
 -- "An accepted job prints `job`, its number from 1, rows, plan cost": rows and cost of the plan that its formula folds to on its grid.

@@ -10,7 +10,7 @@ use lib.Seq.{take_all}
 use borrow.Author.Tests.{le-leb, lt-leb, leb-true, leb-false}
 use Rattle.formula.specs.Bytes.{Digit, digits_from}
 use Rattle.formula.specs.Grammar.{Number, nought, digits}
-use Rattle.formula_scan.specs.declared.Numeral.{Numeral}
+use Rattle.formula_scan.specs.Fields.{Numeral}
 use Rattle.formula_scan.specs.Readers.{NumberRead}
 use Rattle.formula_scan.proofs.Numerals.{kept_fits}
 use Rattle.table.specs.NumberField.{is_number, number_up_to}

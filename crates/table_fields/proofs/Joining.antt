@@ -1,20 +1,18 @@
--- Writes one behind the other: two are one write of both texts, the buffer stays as long, and what stands in front of the next place.
+-- Writes one behind the other: two are one write of both texts, and what stands in front of the next place.
 use mathlib.Core.Path.{◌≡◌, refl, sym, ap, ap₂, ◌∙◌, subst}
-use mathlib.Core.List.{List, [], ◌∷◌, ◌++◌, append_assoc}
-use Prim.Native.Nat.{ℕ, ◌+◌, ◌≤◌, ◌<◌}
+use mathlib.Core.List.{List, [], ◌++◌, append_assoc}
+use Prim.Native.Nat.{ℕ, ◌+◌, ◌≤◌}
 use native.Mathlib.Nat.{add-zero, zero-add}
-use native.Mathlib.Numerals.{add-one}
 use native.Mathlib.Omega.{arith}
-use lib.ListN.{length, take, drop, set, length-append, length-drop, take-append-drop}
-use lib.Seq.{length-take-le, take_at, drop-append-add, drop-drop, set_split}
+use lib.ListN.{length, take, drop, length-append, take-append-drop}
+use lib.Seq.{length-take-le, take_at, drop-append-add, drop-drop}
 use Rattle.table_fields.specs.Writing.{Wrote}
+use Rattle.table_fields.specs.Writer.{Writes}
+use Rattle.table_fields.specs.declared.writer.Writer.{Writer}
 
--- ---- a write of no byte, of one byte, and of a text that is known under another name
+-- ---- a write of no byte, and of a text that is known under another name
 pub wrote_nothing : (l : List ℕ) (at : ℕ) → Wrote l at [] at l
 wrote_nothing l at = record { bytes = sym (ap (λ n. take at l ++ drop n l) (add-zero at) ∙ take-append-drop at l); next = omega arith }
-
-pub wrote_byte : (l : List ℕ) (at byte : ℕ) → at < length l → Wrote l at (byte ∷ []) (at + 1) (set l at byte)
-wrote_byte l at byte h = record { bytes = set_split l at byte h ∙ ap (λ n. take at l ++ byte ∷ drop n l) (sym (add-one at)); next = refl }
 
 pub wrote_same : {l s t m : List ℕ} {at r : ℕ} → s ≡ t → Wrote l at s r m → Wrote l at t r m
 wrote_same {l} {m = m} {at} {r} e w = subst (λ x. Wrote l at x r m) e w
@@ -41,17 +39,6 @@ module _ {l s m : List ℕ} {at r : ℕ} (w : Wrote l at s r m) where
       place : r + k ≡ length (take at l ++ s) + k
       place = omega (arith, w.next, length-append (take at l) s, length-take-le at l h)
 
-  pub wrote-length : at + length s ≤ length l → length m ≡ length l
-  wrote-length h =
-      ap length w.bytes
-      ∙ length-append (take at l) (s ++ drop (at + length s) l)
-      ∙ ap₂ ◌+◌ (length-take-le at l (omega arith)) (length-append s (drop (at + length s) l) ∙ ap (λ n. length s + n) (length-drop (at + length s) l))
-      ∙ omega arith
-
-  -- Room for more is still there behind it.
-  pub wrote_room : (k : ℕ) → at + length s + k ≤ length l → r + k ≤ length m
-  wrote_room k h = omega (arith, w.next, wrote-length (omega arith))
-
 -- ---- two writes, the second behind the first, are one
 pub joined : {l s t m n : List ℕ} {at r q : ℕ} → at ≤ length l → Wrote l at s r m → Wrote m r t q n → Wrote l at (s ++ t) q n
 joined {l} {s} {t} {m} {n} {at} {r} {q} h w v = record {
@@ -65,3 +52,17 @@ joined {l} {s} {t} {m} {n} {at} {r} {q} h w v = record {
   where
     both : at + length s + length t ≡ at + length (s ++ t)
     both = omega (arith, length-append s t)
+
+-- ---- a writer
+pub none_written : (w : Writer) → Writes w [] w
+none_written w = record { same_buffer = refl; same_length = refl; wrote = wrote_nothing w.out.now w.at }
+
+pub written_as : {w v : Writer} {s t : List ℕ} → s ≡ t → Writes w s v → Writes w t v
+written_as e h = record { same_buffer = h.same_buffer; same_length = h.same_length; wrote = wrote_same e h.wrote }
+
+pub both_written : {w v u : Writer} {s t : List ℕ} → w.at ≤ length w.out.now → Writes w s v → Writes v t u → Writes w (s ++ t) u
+both_written room h k = record {
+  same_buffer = k.same_buffer ∙ h.same_buffer;
+  same_length = k.same_length ∙ h.same_length;
+  wrote = joined room h.wrote k.wrote;
+}

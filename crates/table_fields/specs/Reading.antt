@@ -1,6 +1,6 @@
 -- What the reader of a number in a field answers.
 use Rattle.std.specs.Prelude.{true, false, ℕ}
-use Rattle.table.specs.declared.FieldNumber.{FieldNumber}
+use Rattle.table.specs.NumberField.{FieldNumber}
 
 abbrev pub taken : ℕ → FieldNumber
 taken v = record { ok = true; value = v }

@@ -1,35 +1,48 @@
 // The lines of a job in a lent buffer: `no`, `job` and the points.
-// Which of them a job prints is for `table_jobs` and `table_lines`; single numbers and bytes are written in `table_fields::numerals`.
+// Which of them a job prints is for `table_jobs` and `table_lines`; single numbers and bytes are written in `table_fields::writer`.
 #![tactic(auto)]
 
-ghost use Rattle.std.specs.Prelude.{◌∷◌, ◌+◌, ◌*◌, ◌≤◌, length};
+ghost use Rattle.std.specs.Prelude.{◌∷◌, ◌++◌, ◌+◌, ◌*◌, ◌≤◌, length};
 ghost use Rattle.table.specs.Decimal.{decimal};
-ghost use Rattle.table_fields.specs.Writing.{Wrote};
 ghost use Rattle.table.specs.Parts.{tab};
 ghost use Rattle.table.specs.Lines.{three_numbers, no_line, job_line, point_line, point_lines};
+ghost use Rattle.table_fields.specs.Writer.{HasRoom, Writes};
+ghost use Rattle.table_fields.specs.Writing.{Wrote};
 
-use table_fields::numerals;
+use table_fields::writer::Writer;
 
 // A number behind a tab.
-pub fn write_field(out: &mut [u8], at: usize, n: u64) -> usize
-    requires { at + 21 ≤ length out.old }
-    ensures wrote { Wrote out.old at (tab ∷ decimal n) result out.new }
-    ensures upper_bound { result ≤ at + 21 }
+pub fn write_field(writer: &mut Writer<'_>, n: u64)
+    requires { HasRoom writer.old 21 }
+    ensures wrote { Writes writer.old (tab ∷ decimal n) writer.new }
+    ensures upper_bound { writer.new.at ≤ writer.old.at + 21 }
 {
-    let behind_tab = numerals::write_byte(out, at, b'\t');
-    numerals::write_decimal(out, behind_tab, n)
+    writer.byte(b'\t');
+    writer.decimal(n);
 }
 
 // Three numbers, each behind a tab, and the end of the line.
-fn write_numbers(out: &mut [u8], at: usize, a: u64, b: u64, c: u64) -> usize
-    requires { at + 64 ≤ length out.old }
-    ensures wrote { Wrote out.old at (three_numbers a b c) result out.new }
-    ensures upper_bound { result ≤ at + 64 }
+fn write_numbers(writer: &mut Writer<'_>, a: u64, b: u64, c: u64)
+    requires { HasRoom writer.old 64 }
+    ensures wrote { Writes writer.old (three_numbers a b c) writer.new }
+    ensures upper_bound { writer.new.at ≤ writer.old.at + 64 }
 {
-    let behind_a = write_field(out, at, a);
-    let behind_b = write_field(out, behind_a, b);
-    let behind_c = write_field(out, behind_b, c);
-    numerals::write_byte(out, behind_c, b'\n')
+    write_field(writer, a);
+    write_field(writer, b);
+    write_field(writer, c);
+    writer.byte(b'\n');
+}
+
+// A word and three numbers, from place 0 on.
+fn write_line(out: &mut [u8], word: &[u8], a: u64, b: u64, c: u64) -> usize
+    requires { length word.now + 64 ≤ length out.old }
+    ensures wrote { Wrote out.old 0 (word.now ++ three_numbers a b c) result out.new }
+    ensures upper_bound { result ≤ length word.now + 64 }
+{
+    let mut writer = Writer { out, at: 0 };
+    writer.text(word);
+    write_numbers(&mut writer, a, b, c);
+    writer.at
 }
 
 // "`no`, job number, refusal, place", from place 0 on.
@@ -37,9 +50,7 @@ pub fn write_no_line(out: &mut [u8], n: u64, refusal: u64, place: u64) -> usize
     requires { 67 ≤ length out.old }
     ensures { Wrote out.old 0 (no_line n refusal place) result out.new }
 {
-    let second = numerals::write_byte(out, 0, b'n');
-    let behind_word = numerals::write_byte(out, second, b'o');
-    write_numbers(out, behind_word, n, refusal, place)
+    write_line(out, b"no", n, refusal, place)
 }
 
 // "`job`, its number from 1, rows, plan cost", from place 0 on.
@@ -48,34 +59,29 @@ pub fn write_job_line(out: &mut [u8], n: u64, rows: u64, cost: u64) -> usize
     ensures wrote { Wrote out.old 0 (job_line n rows cost) result out.new }
     ensures upper_bound { result ≤ 67 }
 {
-    let second = numerals::write_byte(out, 0, b'j');
-    let third = numerals::write_byte(out, second, b'o');
-    let behind_word = numerals::write_byte(out, third, b'b');
-    write_numbers(out, behind_word, n, rows, cost)
+    write_line(out, b"job", n, rows, cost)
 }
 
 // "its index and value"
-fn write_point(out: &mut [u8], at: usize, index: u64, value: u64) -> usize
-    requires { at + 42 ≤ length out.old }
-    ensures wrote { Wrote out.old at (point_line index value) result out.new }
-    ensures upper_bound { result ≤ at + 42 }
+fn write_point(writer: &mut Writer<'_>, index: u64, value: u64)
+    requires { HasRoom writer.old 42 }
+    ensures wrote { Writes writer.old (point_line index value) writer.new }
+    ensures upper_bound { writer.new.at ≤ writer.old.at + 42 }
 {
-    let behind_index = numerals::write_decimal(out, at, index);
-    let behind_value = write_field(out, behind_index, value);
-    numerals::write_byte(out, behind_value, b'\n')
+    writer.decimal(index);
+    write_field(writer, value);
+    writer.byte(b'\n');
 }
 
 // A line for each word of a table, from index 0 on.
+// Kept: the buffer and its place come apart, since what `table_jobs` promises speaks of the lent buffer, of which a writer would hold a reference.
 pub fn write_points(out: &mut [u8], at: usize, table: &[u64]) -> usize
     requires { at + 42 * length table.now ≤ length out.old }
     ensures { Wrote out.old at (point_lines 0 table.now) result out.new }
 {
-    let mut reached = at;
-    let mut i = 0;
-    while i < table.len() {
-        let next = write_point(out, reached, i as u64, table[i]);
-        reached = next;
-        i += 1;
+    let mut writer = Writer { out, at };
+    for (i, value) in table.iter().enumerate() {
+        write_point(&mut writer, i as u64, *value);
     }
-    reached
+    writer.at
 }

@@ -8,12 +8,22 @@ ghost use Rattle.plan.specs.Plan.{refusal};
 ghost use Rattle.plan.specs.Filling.{point_values};
 ghost use Rattle.table_fields.specs.Writing.{Wrote};
 ghost use Rattle.table.specs.declared.Tool.TheVariants.{Tables};
-ghost use Rattle.table.specs.Lines.{point_lines};
+ghost use Rattle.table.specs.Judged.{bad_place, as_job_line};
+ghost use Rattle.table.specs.Lines.{no_line, point_lines};
 ghost use Rattle.table_progress.specs.Printed.{TextsWithin, plan_left, table_left, PlanPrinted, JobPrinted};
 
-use table::{JobLine, Tool};
+use table::{BadLine, Job, Tool};
+
+// A job line that is refused, or with number 0 the defaults line.
+pub fn print_bad_line(n: u64, bad: BadLine, out: &mut [u8]) -> usize
+    requires { 67 ≤ length out.old }
+    ensures { Wrote out.old 0 (no_line n 11 (bad_place bad)) result out.new }
+{
+    table_job_lines::write_no_line(out, n, 11, bad.place())
+}
 
 // The points of a compiled plan: a line for each word of the table.
+// Kept: the buffer and its place come apart, as in `table_job_lines::write_points`.
 fn print_points(plan: &mut [u64], table: &mut [u64], out: &mut [u8], at: usize) -> usize
     requires plan_value { refusal plan.old ≡ 0 }
     requires table_len_bound { length table.old ≤ 4096 }
@@ -22,7 +32,7 @@ fn print_points(plan: &mut [u64], table: &mut [u64], out: &mut [u8], at: usize) 
     ensures plan_after { plan.new ≡ plan_left Tables (length table.old) plan.old }
     ensures table_after { table.new ≡ table_left Tables (length table.old) plan.old table.old }
 {
-    plan_fill::fill(plan, table, u64::MAX);
+    let _ = plan_fill::fill(plan, table, u64::MAX);
     table_job_lines::write_points(out, at, table)
 }
 
@@ -42,19 +52,19 @@ fn print_plan(
     ensures { PlanPrinted tool n formula.now plan.old table.old out.old result
         plan.new table.new out.new }
 {
-    let cost = plan_costs::cost(plan);
-    let at = table_job_lines::write_job_line(out, n, plan[0], cost.cost);
+    let cost = plan_costs::cost(plan).unwrap_or(0);
+    let at = table_job_lines::write_job_line(out, n, plan[0], cost);
     match tool {
         Tool::Tables => print_points(plan, table, out, at),
         Tool::Reasons => table_rows::write_rows(out, at, formula, plan),
     }
 }
 
-// Job n as it was judged, with the formula taken: what it prints from place 0 on. Answers the place behind it.
-pub fn print_job(
+// A job whose line is taken: compiled and printed, or refused as its formula is.
+fn print_taken(
     tool: Tool,
     n: u64,
-    job: JobLine,
+    job: Job,
     formula: &[u8],
     plan: &mut [u64],
     table: &mut [u64],
@@ -64,16 +74,35 @@ pub fn print_job(
     requires count_in_bounds { job.count ≤ length table.old }
     requires table_len_bound { length table.old ≤ 4096 }
     requires in_bounds { 67 + 42 * 4096 ≤ length out.old }
-    ensures { JobPrinted tool n job formula.now plan.old table.old out.old result
+    ensures { JobPrinted tool n (as_job_line (Ok job)) formula.now plan.old table.old out.old result
         plan.new table.new out.new }
 {
-    if !job.ok {
-        return table_job_lines::write_no_line(out, n, 11, job.place);
+    if let Err(refusal) = compile::compile(formula, job.start, job.step, plan) {
+        return table_job_lines::write_no_line(out, n, refusal.number(), refusal.place());
     }
-    let answer = compile::compile(formula, job.start, job.step, plan);
-    if answer.number != 0 {
-        return table_job_lines::write_no_line(out, n, answer.number, answer.place);
+    let points = &mut table[..job.count as usize];
+    print_plan(tool, n, formula, plan, points, out)
+}
+
+// Job n as its line was judged, with the formula taken: what it prints from place 0 on. Answers the place behind it.
+pub fn print_job(
+    tool: Tool,
+    n: u64,
+    job: Result<Job, BadLine>,
+    formula: &[u8],
+    plan: &mut [u64],
+    table: &mut [u64],
+    out: &mut [u8],
+) -> usize
+    requires plan_len { length plan.old ≡ plan_length }
+    requires count_in_bounds { (as_job_line job).count ≤ length table.old }
+    requires table_len_bound { length table.old ≤ 4096 }
+    requires in_bounds { 67 + 42 * 4096 ≤ length out.old }
+    ensures { JobPrinted tool n (as_job_line job) formula.now plan.old table.old out.old result
+        plan.new table.new out.new }
+{
+    match job {
+        Ok(job) => print_taken(tool, n, job, formula, plan, table, out),
+        Err(bad) => print_bad_line(n, bad, out),
     }
-    let count = job.count as usize;
-    print_plan(tool, n, formula, plan, &mut table[0..count], out)
 }

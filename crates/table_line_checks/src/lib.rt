@@ -3,133 +3,73 @@
 #![tactic(auto)]
 
 ghost use Rattle.std.specs.Prelude.{◌≡◌};
-ghost use Rattle.table.specs.Judged.{same_bytes, is_header, is_misshapen, empty_field, job_refused, judged_defaults, judged_numbers, judged_job};
+ghost use Rattle.table.specs.Judged.{is_header, is_misshapen, empty_field, as_defaults_line, as_job_line, defaults_at, judged_defaults, judged_numbers, judged_job};
 
-use table::{DefaultsLine, JobLine};
+use table::{BadLine, Job, LONGEST_LINE, MOST_POINTS};
 use table_fields::fields::{count_fields, field, pick};
 use table_fields::numerals;
-
-const MOST_POINTS: u64 = 4096;
-
-const LONGEST_LINE: usize = 4096;
-
-// The same bytes.
-fn same_bytes<'a>(bytes: &'a [u8], others: &'a [u8]) -> bool
-    ensures { result ≡ same_bytes bytes.now others.now }
-{
-    if bytes.len() != others.len() {
-        return false;
-    }
-    let mut i = 0;
-    while i < bytes.len() {
-        if bytes[i] != others[i] {
-            return false;
-        }
-        i += 1;
-    }
-    true
-}
 
 pub fn is_header(line: &[u8]) -> bool
     ensures { result ≡ is_header line.now }
 {
-    same_bytes(line, b"chain-jobs\t1")
+    line == b"chain-jobs\t1".as_slice()
 }
 
 // "line over 4,096 bytes or not four fields"
 fn is_misshapen(line: &[u8]) -> bool
     ensures { result ≡ is_misshapen line.now }
 {
-    if LONGEST_LINE < line.len() {
-        return true;
-    }
-    count_fields(line) != 4
+    LONGEST_LINE < line.len() || count_fields(line) != 4
 }
 
-// The field number of the leftmost empty field, or 0.
-fn empty_field(line: &[u8]) -> u64
-    ensures { result ≡ empty_field line.now }
+// What each field is refused for.
+const FIELDS: [BadLine; 4] = [
+    BadLine::Formula,
+    BadLine::Start,
+    BadLine::Step,
+    BadLine::Count,
+];
+
+// "the leftmost empty field is refused at its field number"
+fn judge_empty(line: &[u8]) -> Result<(), BadLine>
+    ensures { as_defaults_line result ≡ defaults_at (empty_field line.now) }
 {
-    let mut n = 1;
-    while n < 5 {
-        if field(line, n).len() == 0 {
-            return n as u64;
+    for (i, bad) in FIELDS.iter().enumerate() {
+        if field(line, i + 1).is_empty() {
+            return Err(*bad);
         }
-        n += 1;
     }
-    0
-}
-
-fn refused(place: u64) -> JobLine
-    ensures { result ≡ job_refused place }
-{
-    JobLine {
-        ok: false,
-        place,
-        start: 0,
-        step: 0,
-        count: 0,
-    }
+    Ok(())
 }
 
 // "then start, step, count bad, place 2, 3, 4"
-fn judge_numbers<'a>(start: &'a [u8], step: &'a [u8], count: &'a [u8]) -> JobLine
-    ensures { result ≡ judged_numbers start.now step.now count.now }
+fn judge_numbers<'a>(start: &'a [u8], step: &'a [u8], count: &'a [u8]) -> Result<Job, BadLine>
+    ensures { as_job_line result ≡ judged_numbers start.now step.now count.now }
 {
-    let first = numerals::number_up_to(start, u64::MAX);
-    if !first.ok {
-        return refused(2);
-    }
-    let between = numerals::number_up_to(step, u64::MAX);
-    if !between.ok {
-        return refused(3);
-    }
-    let points = numerals::number_up_to(count, MOST_POINTS);
-    if !points.ok {
-        return refused(4);
-    }
-    JobLine {
-        ok: true,
-        place: 0,
-        start: first.value,
-        step: between.value,
-        count: points.value,
-    }
+    let start = numerals::number_up_to(start, u64::MAX).ok_or(BadLine::Start)?;
+    let step = numerals::number_up_to(step, u64::MAX).ok_or(BadLine::Step)?;
+    let count = numerals::number_up_to(count, MOST_POINTS as u64).ok_or(BadLine::Count)?;
+    Ok(Job { start, step, count })
 }
 
 // "In the defaults line the leftmost empty field is refused at its field number, ahead of bad numbers"
-pub fn judge_defaults(line: &[u8]) -> DefaultsLine
-    ensures { result ≡ judged_defaults line.now }
+pub fn judge_defaults(line: &[u8]) -> Result<(), BadLine>
+    ensures { as_defaults_line result ≡ judged_defaults line.now }
 {
     if is_misshapen(line) {
-        return DefaultsLine {
-            ok: false,
-            place: 0,
-        };
+        return Err(BadLine::Misshapen);
     }
-    let empty = empty_field(line);
-    if empty != 0 {
-        return DefaultsLine {
-            ok: false,
-            place: empty,
-        };
-    }
-    let start = field(line, 2);
-    let step = field(line, 3);
-    let count = field(line, 4);
-    let numbers = judge_numbers(start, step, count);
-    DefaultsLine {
-        ok: numbers.ok,
-        place: numbers.place,
-    }
+    judge_empty(line)?;
+    judge_numbers(field(line, 2), field(line, 3), field(line, 4))?;
+    Ok(())
 }
 
 // The job line with the defaults where its own fields are empty.
-pub fn judge_job<'a>(line: &'a [u8], defaults: &'a [u8]) -> JobLine
-    ensures { result ≡ judged_job line.now defaults.now }
+pub fn judge_job<'a>(line: &'a [u8], defaults: &'a [u8]) -> Result<Job, BadLine>
+    ensures { as_job_line result ≡ judged_job line.now defaults.now }
 {
     if is_misshapen(line) {
-        return refused(0);
+        return Err(BadLine::Misshapen);
     }
     let start = pick(line, defaults, 2);
     let step = pick(line, defaults, 3);

@@ -5,18 +5,17 @@
 ghost use Rattle.std.specs.Prelude.{◌≡◌, List, ℕ, ◌+◌, ◌-◌, ◌*◌, ◌^◌, ◌≤◌, ◌<◌, length};
 ghost use Rattle.plan.specs.Measures.{plan_length};
 ghost use Rattle.table.specs.declared.Tool.{Tool};
+ghost use Rattle.table.specs.Lines.{no_line};
 ghost use Rattle.table_fields.specs.Writing.{Wrote};
 ghost use Rattle.table_progress.specs.Printed.{job_prints};
 ghost use Rattle.table_progress.specs.Run.{the_header, the_defaults, a_job, line_prints, end_prints};
 ghost use Rattle.table_progress.specs.Steps.{ended, awaited_by, awaits, progress_by, progress_after, defaults_after, plan_after_line, table_after_line};
-ghost use Rattle.table_progress.specs.declared.Awaited.TheVariants.{Header, Defaults};
+ghost use Rattle.table_progress.specs.declared.Awaited.TheVariants.{Header, Defaults, Job};
 
 use plan::PLAN_WORDS;
-use table::Tool;
+use table::{BadLine, MOST_POINTS, Tool};
 use table_fields::fields;
 use table_progress::{Awaited, LineDone, Progress};
-
-const MOST_POINTS: usize = 4096;
 
 // No line is awaited any more.
 pub fn ended() -> Progress
@@ -30,27 +29,32 @@ pub fn ended() -> Progress
     }
 }
 
+// A header line that is refused, or none.
+fn print_bad_header(out: &mut [u8]) -> usize
+    requires { 67 ≤ length out.old }
+    ensures { Wrote out.old 0 (no_line 0 12 0) result out.new }
+{
+    table_job_lines::write_no_line(out, 0, 12, 0)
+}
+
 // "a line `chain-jobs`, tab, `1`", or the run ends.
 fn end_header(line: &[u8], out: &mut [u8]) -> LineDone
     requires { 67 ≤ length out.old }
     ensures progress_value { result.progress ≡ progress_by Header 0 0 line.now }
     ensures wrote { (tool : Tool) → Wrote out.old 0 (line_prints tool the_header line.now) result.wrote out.new }
 {
-    if table_line_checks::is_header(line) {
+    if !table_line_checks::is_header(line) {
         return LineDone {
-            progress: Progress {
-                awaited: Awaited::Defaults,
-                number: 0,
-                held: 0,
-                kept: 0,
-            },
-            wrote: 0,
+            progress: ended(),
+            wrote: print_bad_header(out),
         };
     }
-    let wrote = table_job_lines::write_no_line(out, 0, 12, 0);
     LineDone {
-        progress: ended(),
-        wrote,
+        progress: Progress {
+            awaited: Awaited::Defaults,
+            ..ended()
+        },
+        wrote: 0,
     }
 }
 
@@ -62,54 +66,63 @@ fn end_defaults(line: &[u8], defaults: &mut [u8], out: &mut [u8]) -> LineDone
     ensures wrote { (tool : Tool) → Wrote out.old 0 (line_prints tool the_defaults line.now) result.wrote out.new }
     ensures defaults_after { defaults.new ≡ defaults_after the_defaults line.now defaults.old }
 {
-    let judged = table_line_checks::judge_defaults(line);
-    if !judged.ok {
-        let wrote = table_job_lines::write_no_line(out, 0, 11, judged.place);
+    if let Err(bad) = table_line_checks::judge_defaults(line) {
         return LineDone {
             progress: ended(),
-            wrote,
+            wrote: table_jobs::print_bad_line(0, bad, out),
         };
     }
-    defaults[0..line.len()].copy_from_slice(line);
+    defaults[..line.len()].copy_from_slice(line);
     LineDone {
         progress: Progress {
             awaited: Awaited::Job,
             number: 1,
-            held: 0,
             kept: line.len(),
+            ..ended()
         },
         wrote: 0,
     }
 }
 
-// Job n. Answers the bytes that it printed.
+// A job line, with the defaults that were kept.
+// Kept: the buffers are parameters, here and in `end_line`. A struct that lends them shows what it leaves as nested pairs (`lent.exit.1.1.0.now`), and lent as
+// `&mut` asks a clause a buffer that it is still the same one.
 fn end_job<'a>(
     tool: Tool,
-    n: u64,
+    progress: Progress,
     line: &'a [u8],
     defaults: &'a [u8],
     plan: &mut [u64],
     table: &mut [u64],
     out: &mut [u8],
-) -> usize
+) -> LineDone
+    requires number_bound { progress.number < 2 ^ 64 - 1 }
     requires plan_length_in_bounds { plan_length ≤ length plan.old }
     requires in_bounds { 4096 ≤ length table.old }
     requires in_bounds_2 { 67 + 42 * 4096 ≤ length out.old }
-    ensures wrote { Wrote out.old 0 (job_prints tool n line.now defaults.now) result out.new }
-    ensures plan_after { plan.new ≡ plan_after_line tool (a_job defaults.now n) line.now plan.old }
-    ensures table_after { table.new ≡ table_after_line tool (a_job defaults.now n) line.now table.old }
+    ensures progress_value { result.progress ≡ progress_by Job progress.number progress.kept line.now }
+    ensures wrote { Wrote out.old 0 (job_prints tool progress.number line.now defaults.now) result.wrote out.new }
+    ensures plan_after { plan.new ≡ plan_after_line tool (a_job defaults.now progress.number) line.now plan.old }
+    ensures table_after { table.new ≡ table_after_line tool (a_job defaults.now progress.number) line.now table.old }
 {
-    let judged = table_line_checks::judge_job(line, defaults);
-    let formula = fields::pick(line, defaults, 1);
-    table_jobs::print_job(
+    let wrote = table_jobs::print_job(
         tool,
-        n,
-        judged,
-        formula,
-        &mut plan[0..PLAN_WORDS],
-        &mut table[0..MOST_POINTS],
+        progress.number,
+        table_line_checks::judge_job(line, defaults),
+        fields::pick(line, defaults, 1),
+        &mut plan[..PLAN_WORDS],
+        &mut table[..MOST_POINTS],
         out,
-    )
+    );
+    LineDone {
+        progress: Progress {
+            awaited: Awaited::Job,
+            number: progress.number + 1,
+            held: 0,
+            ..progress
+        },
+        wrote,
+    }
 }
 
 // The line that was awaited is whole.
@@ -134,31 +147,12 @@ pub fn end_line(
     ensures plan_after { plan.new ≡ plan_after_line tool (awaits progress defaults.old) line.now plan.old }
     ensures table_after { table.new ≡ table_after_line tool (awaits progress defaults.old) line.now table.old }
 {
-    let awaited = progress.awaited;
-    match awaited {
+    match progress.awaited {
         Awaited::Header => end_header(line, out),
         Awaited::Defaults => end_defaults(line, defaults, out),
         Awaited::Job => {
-            let kept = progress.kept;
-            let wrote = end_job(
-                tool,
-                progress.number,
-                line,
-                &defaults[0..kept],
-                plan,
-                table,
-                out,
-            );
-            let next = progress.number + 1;
-            LineDone {
-                progress: Progress {
-                    awaited: Awaited::Job,
-                    number: next,
-                    held: 0,
-                    kept,
-                },
-                wrote,
-            }
+            let kept = &defaults[..progress.kept];
+            end_job(tool, progress, line, kept, plan, table, out)
         }
         Awaited::Nothing => LineDone {
             progress: ended(),
@@ -173,9 +167,8 @@ pub fn end_input(awaited: Awaited, out: &mut [u8]) -> usize
     ensures { (n kept : ℕ) (buffer : List ℕ) → Wrote out.old 0 (end_prints (awaited_by awaited n kept buffer)) result out.new }
 {
     match awaited {
-        Awaited::Header => table_job_lines::write_no_line(out, 0, 12, 0),
-        Awaited::Defaults => table_job_lines::write_no_line(out, 0, 11, 0),
-        Awaited::Job => 0,
-        Awaited::Nothing => 0,
+        Awaited::Header => print_bad_header(out),
+        Awaited::Defaults => table_jobs::print_bad_line(0, BadLine::Misshapen, out),
+        Awaited::Job | Awaited::Nothing => 0,
     }
 }

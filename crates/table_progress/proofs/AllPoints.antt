@@ -1,18 +1,16 @@
 -- A plan that is not refused costs so little that a budget of all words pays for a whole table; what is printed by it.
 use mathlib.Core.Path.{◌≡◌, refl, sym, ap, subst, ◌∙◌}
-use mathlib.Core.Bool.{true, cond}
+use mathlib.Core.Bool.{true}
 use mathlib.Core.List.{List, ◌++◌, append-nil}
 use Prim.Native.Nat.{ℕ, zero, suc, ◌*◌, ◌≤◌}
 use native.Mathlib.Nat.{le_trans, mul-le-mul_right, min-eq_left, le-div_iff_mul-le}
 use native.Mathlib.Numerals.{add-one}
 use native.Mathlib.Omega.{arith}
-use lib.Dec.{eqb}
 use lib.ListN.{length}
 use lib.Seq.{drop-length}
 use Rattle.plan.specs.Measures.{plan_length}
-use Rattle.plan.specs.declared.CostAnswer.{CostAnswer}
 use Rattle.plan.specs.Plan.{row_count, rows_from, first_rows, sound, cost_of, cost, refusal}
-use Rattle.plan.specs.Filling.{point_cost, points_for, point_values, filled, fill, cost_answer}
+use Rattle.plan.specs.Filling.{point_cost, points_for, point_values, filled, fill}
 use Rattle.plan.proofs.RowLaws.{cost-next}
 use Rattle.plan.proofs.SoundLaws.{sound-count, row_facts}
 use Rattle.plan.proofs.Accepting.{accepted, fill-accepted}
@@ -65,18 +63,15 @@ module _ (p table : List ℕ) (budget : ℕ) (e : refusal p ≡ 0) (few : length
     (leaves ∙ ap (λ f. f.plan) fill-all, fills ∙ ap (λ f. f.table) fill-all),
   )
 
--- The `job` line of a plan that is not refused, and behind it what the tool prints.
-module _ {tool : Tool} (n : ℕ) (formula p table : List ℕ) (e : refusal p ≡ 0) {answer : CostAnswer} {out between : List ℕ} {at : ℕ} (costs : answer ≡ cost_answer p)
-    (line : Wrote out 0 (job_line n (row_count p) answer.cost) at between) {out' p' table' : List ℕ} {r : ℕ} where
+-- The `job` line of a plan, and behind it what the tool prints.
+module _ {tool : Tool} (n : ℕ) (formula p table : List ℕ) {spent : ℕ} {out between : List ℕ} {at : ℕ} (costs : spent ≡ cost p)
+    (line : Wrote out 0 (job_line n (row_count p) spent) at between) {out' p' table' : List ℕ} {r : ℕ} where
   pub plan-printed : {by : Tool} → tool ≡ by → Wrote between at (tool_prints by (length table) formula p) r out'
       → p' ≡ plan_left by (length table) p → table' ≡ table_left by (length table) p table → PlanPrinted tool n formula p table out r p' table' out'
   plan-printed {by} told behind leaves fills =
       subst (λ t. PlanPrinted t n formula p table out r p' table' out') (sym told)
       (record {
-        prints = wrote_same (ap (λ k. job_line n (row_count p) k ++ tool_prints by (length table) formula p) known) (joined (omega arith) line behind);
+        prints = wrote_same (ap (λ k. job_line n (row_count p) k ++ tool_prints by (length table) formula p) costs) (joined (omega arith) line behind);
         leaves = leaves;
         fills = fills;
       })
-    where
-      known : answer.cost ≡ cost p
-      known = ap (λ (a : CostAnswer). a.cost) costs ∙ ap (λ k. cond (eqb k 0) (cost p) 0) e

@@ -19,13 +19,12 @@ use Rattle.fold.specs.Layout as Layout
 use Rattle.fold.proofs.Origins.{kind_of}
 use Rattle.reason.specs.RowTrees.{operator_over, tree_over, trees}
 use Rattle.reason.specs.Wording.{reason_text}
-use Rattle.reason.proofs.Numbers.{sum_folds, product_folds, power_folds, joined_number, sum_number, product_number, minus_number, power_number, raise_number, reason_of}
+use Rattle.reason.proofs.Numbers.{reason_of}
 use Rattle.table.specs.Decimal.{last_digits}
 use Rattle.table.specs.NumberField.{all_digits, is_number, number_up_to}
-use Rattle.table.specs.declared.JobLine.{JobLine}
 use Rattle.table.specs.declared.Tool.{Tool}
 use Rattle.table.specs.Parts.{in_first, lines, before, after, after_tabs}
-use Rattle.table.specs.Judged.{same_bytes, judged_defaults, judged_job}
+use Rattle.table.specs.Judged.{JobLine, same_bytes, judged_defaults, judged_job}
 use Rattle.table.specs.Lines.{point_lines}
 use Rattle.table.specs.Run.{RunPrints}
 use Rattle.table_progress.specs.Printed.{rows_print, verdict_prints, judged_prints, job_prints}
@@ -55,7 +54,7 @@ unfolding digits_from count all_digits is_number number_up_to before after after
 judges_line l defaults = judged_job l defaults
 
 unfoldable pub decides : Folded → ℕ
-unfolding sum_folds product_folds power_folds joined_number sum_number product_number minus_number power_number raise_number reason_of
+unfolding reason_of
 decides t = reason_of t
 
 unfoldable pub explains : List ℕ → List ℕ → ℕ → List ℕ

@@ -9,10 +9,8 @@ use lib.ListN.{length, take}
 use lib.Seq.{take-take}
 use borrow.Author.Tests.{ltb-false}
 use Rattle.table.specs.NumberField.{is_empty}
-use Rattle.table.specs.declared.DefaultsLine.{DefaultsLine}
-use Rattle.table.specs.declared.JobLine.{JobLine}
 use Rattle.table.specs.Parts.{line_feed, picked}
-use Rattle.table.specs.Judged.{judged_defaults, judged_job}
+use Rattle.table.specs.Judged.{DefaultsLine, JobLine, judged_defaults, judged_job}
 use Rattle.table.proofs.NumbersJudged.{defaults_misshapen}
 use Rattle.table.proofs.PartsJudged.{header_held, defaults_held, job_held, defaults-whole, job_whole}
 use Rattle.table.specs.Lines.{no_line}

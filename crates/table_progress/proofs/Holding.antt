@@ -1,11 +1,11 @@
 -- Bytes copied to the beginning of a buffer, and the bytes held of the line under way.
 use mathlib.Core.Path.{◌≡◌, refl, sym, ap, ◌∙◌}
 use mathlib.Core.List.{List, ◌++◌, append_assoc}
-use Prim.Native.Nat.{ℕ, ◌+◌, ◌-◌, ◌≤◌, ◌<◌}
-use native.Mathlib.Nat.{sub-zero}
+use Prim.Native.Nat.{ℕ, min, ◌+◌, ◌-◌, ◌≤◌}
 use native.Mathlib.Omega.{arith}
 use lib.ListN.{length, take, drop, length-append, length-take, length-drop, take-append-drop}
-use lib.Seq.{length-take-le, take_all, drop-append-le, take-append-add}
+use lib.Seq.{length-take-le, drop-append-le, take-append-add}
+use Rattle.std.proofs.lemmas.List.{take_min}
 use Rattle.plan.proofs.RowLaws.{part, part_put, part-put, tail_part}
 use Rattle.table_fields.specs.Writing.{Wrote}
 use Rattle.table_fields.proofs.Joining.{wrote-from-start}
@@ -16,9 +16,6 @@ pub put_front : (s l : List ℕ) (k n : ℕ) → k ≤ n → n ≤ length l → 
 put_front s l k n h inside =
     append_assoc s (drop k (take n l)) (drop n l)
     ∙ ap (λ r. s ++ r) (sym (drop-append-le k (take n l) (drop n l) (omega (arith, length-take-le n l inside))) ∙ ap (drop k) (take-append-drop n l))
-
-pub front_length : (n : ℕ) (l : List ℕ) → n ≤ length l → length (part 0 n l) ≡ n
-front_length n l h = length-take-le (n - 0) l (omega arith) ∙ sub-zero n
 
 -- What was written from the start on fits a buffer that stays as long.
 pub wrote_fits : {l s m : List ℕ} {r : ℕ} → Wrote l 0 s r m → length m ≡ length l → r ≤ length l
@@ -66,25 +63,22 @@ module _ (held : ℕ) (line more : List ℕ) where
     length_held : length (take held line) ≡ held
     length_held = length-take-le held line (omega arith)
 
-    -- All of the others may matter, or only as many as there is room for.
-    pub held_all : {new : List ℕ} → length more ≤ 4097 - held → new ≡ more
-        → Held (held + length more) (part_put held (held + length more) line new)
-    held_all k put =
-        held_behind more (held + length more) refl (omega arith)
-        (take_all 4097 (take held line ++ more) (omega (arith, length_held, length-append (take held line) more))) put
-
-    pub held_some : {new : List ℕ} → 4097 - held < length more → new ≡ part 0 (4097 - held) more
-        → Held 4097 (part_put held 4097 line new)
-    held_some k put = held_behind (part 0 (4097 - held) more) 4097 whole long (most ∙ rw (sub-zero (4097 - held))) put
+    -- All of the others, or only as many as there is room for.
+    pub held_more : {taken : ℕ} {new : List ℕ} → taken ≡ min (4097 - held) (length more) → new ≡ take taken more
+        → Held (held + taken) (part_put held (held + taken) line new)
+    held_more {taken} e put = held_behind (take taken more) (held + taken) (omega (arith, whole)) (omega arith) most put
       where
-        whole : 4097 ≡ held + length (part 0 (4097 - held) more)
-        whole = omega (arith, length-take-le (4097 - held - 0) more (omega arith))
+        whole : length (take taken more) ≡ taken
+        whole = length-take-le taken more (omega arith)
 
-        most : held_with held line more ≡ take held line ++ take (4097 - held) more
-        most = ap (λ n. take n (take held line ++ more)) room ∙ take-append-add (take held line) more (4097 - held)
-          where
-            room : 4097 ≡ length (take held line) + (4097 - held)
-            room = omega (arith, length_held)
+        room : 4097 ≡ length (take held line) + (4097 - held)
+        room = omega (arith, length_held)
+
+        most : held_with held line more ≡ take held line ++ take taken more
+        most =
+            ap (λ n. take n (take held line ++ more)) room
+            ∙ take-append-add (take held line) more (4097 - held)
+            ∙ ap (λ s. take held line ++ s) (sym (take_min (4097 - held) more) ∙ ap (λ n. take n more) (sym e))
 
   pub held_at_most : {r : ℕ} {line' : List ℕ} → Held r line' → r ≤ 4097
   held_at_most so = omega (arith, so.0, length-take 4097 (take held line ++ more))

@@ -2,8 +2,7 @@
 use mathlib.Core.Path.{◌≡◌, refl, sym, ap, ap₂, subst, ◌∙◌}
 use mathlib.Core.Bool.{true, false, cond}
 use mathlib.Core.List.{List, [], ◌++◌, append-nil}
-use Prim.Native.Nat.{ℕ, ◌-◌, ◌≤◌}
-use native.Mathlib.Nat.{sub-zero}
+use Prim.Native.Nat.{ℕ, ◌≤◌}
 use native.Mathlib.Omega.{arith}
 use lib.ListN.{length, take, drop, drop_of_length-le, take-append-drop}
 use lib.Seq.{length-take-le}
@@ -15,13 +14,12 @@ use Rattle.formula_scan.proofs.Judging.{fault_number}
 use Rattle.formula_scan.proofs.Verdicts.{refused-verdict, accepted-verdict}
 use Rattle.plan.specs.Plan.{row_count, refusal}
 use Rattle.plan.specs.Filling.{point_values}
-use Rattle.plan.proofs.RowLaws.{part, part_put}
-use Rattle.fold.specs.declared.CompileAnswer.{CompileAnswer}
+use Rattle.fold.specs.Answer.{CompileAnswer}
 use Rattle.fold.proofs.Compiled.{compiled_within}
 use Rattle.fold.specs.Compiling.{Compiling, too_short, refused, accepted}
 use Rattle.table_fields.specs.Writing.{Wrote}
 use Rattle.table_fields.proofs.Joining.{wrote_same}
-use Rattle.table.specs.declared.JobLine.{JobLine}
+use Rattle.table.specs.Judged.{JobLine}
 use Rattle.table.specs.Lines.{no_line, point_lines, direct_values}
 use Rattle.table.specs.Run.{job_plan, first_line, ToolPrints, points_follow, rows_follow}
 use Rattle.table.specs.declared.Tool.{Tool}
@@ -134,17 +132,16 @@ module _ (tool : Tool) (n : ℕ) (job : JobLine) (formula plan table out : List 
 
     -- The first words of the table are lent, one for each point.
     pub formula_printed : {r : ℕ} {left written out' : List ℕ} → job.ok ≡ true → job.count ≤ length table
-        → PlanPrinted tool n formula plan' (part 0 job.count table) out r left written out'
-        → JobPrinted tool n job formula plan table out r left (part_put 0 job.count table written) out'
+        → PlanPrinted tool n formula plan' (take job.count table) out r left written out'
+        → JobPrinted tool n job formula plan table out r left (written ++ drop job.count table) out'
     unfolding verdict_prints verdict_plan verdict_table
     formula_printed e room printed =
         let (t, found, same) = formula_accepted long compiles none in
         line_taken e (Verdict.accepted t) (accepted-verdict formula found)
         (wrote_same (ap₂ (λ k p. plan_prints tool n k formula p) whole same) printed.prints)
         (printed.leaves ∙ ap₂ (λ k p. plan_left tool k p) whole same)
-        (ap₂ (λ s k. s ++ drop k table) (printed.fills ∙ ap₂ (λ k p. table_left tool k p (part 0 job.count table)) whole same) (sub-zero job.count)
-        ∙ ap (λ k. table_left tool job.count (job_plan job t) (take k table) ++ drop job.count table) (sub-zero job.count)
+        (ap (λ s. s ++ drop job.count table) (printed.fills ∙ ap₂ (λ k p. table_left tool k p (take job.count table)) whole same)
         ∙ table-part tool job.count job.count (job_plan job t) table (omega arith) room)
       where
-        whole : length (part 0 job.count table) ≡ job.count
-        whole = length-take-le (job.count - 0) table (omega arith) ∙ sub-zero job.count
+        whole : length (take job.count table) ≡ job.count
+        whole = length-take-le job.count table (omega arith)

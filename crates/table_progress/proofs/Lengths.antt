@@ -30,7 +30,7 @@ use Rattle.reason.proofs.Numbers.{reason_of}
 use Rattle.table.specs.Decimal.{decimal}
 use Rattle.table.proofs.Digits.{word-digits}
 use Rattle.table.specs.Parts.{tab, line_feed}
-use Rattle.table.specs.declared.JobLine.{JobLine}
+use Rattle.table.specs.Judged.{JobLine}
 use Rattle.table.specs.Run.{job_plan}
 use Rattle.table.specs.Lines.{three_numbers, no_line, job_line, point_line, point_lines, row_line}
 use Rattle.table.specs.declared.Tool.{Tool}

@@ -3,7 +3,6 @@ use mathlib.Core.Path.{◌≡◌, refl, sym, ap, ap₂, subst, ◌∙◌}
 use mathlib.Core.Bool.{Bool, true, false, cond}
 use mathlib.Core.List.{List, ◌++◌}
 use Prim.Native.Nat.{ℕ, ◌+◌, ◌≤◌}
-use native.Mathlib.Nat.{sub-zero}
 use lib.ListN.{length, take, drop, take-append-drop}
 use Rattle.plan.specs.Measures.{plan_length}
 use Rattle.formula_scan.specs.Verdict.{Verdict, refused, accepted, verdict}
@@ -11,9 +10,7 @@ use Rattle.plan.proofs.RowLaws.{part, part_put}
 use Rattle.table_fields.specs.Writing.{Wrote}
 use Rattle.table_fields.proofs.Joining.{wrote_nothing, wrote_same}
 use Rattle.table.specs.Parts.{picked}
-use Rattle.table.specs.Judged.{is_header, judged_defaults, judged_job}
-use Rattle.table.specs.declared.DefaultsLine.{DefaultsLine}
-use Rattle.table.specs.declared.JobLine.{JobLine}
+use Rattle.table.specs.Judged.{DefaultsLine, JobLine, is_header, judged_defaults, judged_job}
 use Rattle.table.specs.Run.{job_plan}
 use Rattle.table.proofs.PartsJudged.{job_small}
 use Rattle.table.specs.Lines.{no_line}
@@ -124,15 +121,12 @@ module _ (tool : Tool) (p : Progress) (l defaults plan table out : List ℕ) whe
       subst (EndedBy p' w defaults' plan table out') (sym e) (so.0, (so.1.0 tool, (so.1.1, (refl, refl))))
 
   pub ended_job : {w : ℕ} {plan' table' out' : List ℕ} → p.awaited ≡ Job
-      → JobEnded tool p.number l (part 0 p.kept defaults) plan table out w plan' table' out'
+      → JobEnded tool p.number l (take p.kept defaults) plan table out w plan' table' out'
       → LineEnded (record { awaited = Job; number = p.number + 1; held = 0; kept = p.kept }) w defaults plan' table' out'
   unfolding line_prints
   ended_job {w} {plan'} {table'} {out'} e so =
       subst (EndedBy (record { awaited = Job; number = p.number + 1; held = 0; kept = p.kept }) w defaults plan' table' out') (sym e)
-      (refl, (whole.0, (refl, (whole.1.0, whole.1.1))))
-    where
-      whole : JobEnded tool p.number l (take p.kept defaults) plan table out w plan' table' out'
-      whole = subst (λ k. JobEnded tool p.number l (take k defaults) plan table out w plan' table' out') (sub-zero p.kept) so
+      (refl, (so.0, (refl, (so.1.0, so.1.1))))
 
   pub ended-nothing : {p' : Progress} → p.awaited ≡ Nothing → p' ≡ ended → LineEnded p' 0 defaults plan table out
   unfolding line_prints

@@ -8,10 +8,8 @@ use lib.Dec.{eqb}
 use lib.ListN.{length, take, drop, length-append, length-take, length-drop}
 use Rattle.fold.proofs.Rules.{picked as picks}
 use Rattle.table.specs.NumberField.{is_empty, number_up_to}
-use Rattle.table.specs.declared.DefaultsLine.{DefaultsLine}
-use Rattle.table.specs.declared.JobLine.{JobLine}
 use Rattle.table.specs.Parts.{line_feed, field, before, picked}
-use Rattle.table.specs.Judged.{is_header, is_misshapen, largest_word, most_points, bad_number, empty_field, defaults_at, judged_defaults, job_refused, judged_job}
+use Rattle.table.specs.Judged.{DefaultsLine, JobLine, is_header, is_misshapen, largest_word, most_points, bad_number, empty_field, defaults_at, judged_defaults, job_refused, judged_job}
 use Rattle.table.proofs.PartsJudged.{job_small}
 use Rattle.table.specs.Lines.{no_line}
 use Rattle.table.specs.declared.Tool.{Tool}

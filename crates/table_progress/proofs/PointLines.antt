@@ -7,8 +7,9 @@ use native.Mathlib.Numerals.{add-one}
 use native.Mathlib.Omega.{arith}
 use lib.ListN.{length, get_or, take}
 use lib.Seq.{length-take-le, take-suc}
-use Rattle.table_fields.specs.Writing.{Wrote}
-use Rattle.table_fields.proofs.Joining.{wrote_same, joined}
+use Rattle.table_fields.specs.declared.writer.Writer.{Writer}
+use Rattle.table_fields.specs.Writer.{Writes}
+use Rattle.table_fields.proofs.Joining.{written_as, both_written}
 use Rattle.table.specs.Lines.{point_line, point_lines}
 
 -- The last of several point lines.
@@ -24,10 +25,9 @@ last_point i (x ∷ s) v =
     count = omega arith
 
 -- The lines of the first i words, and the line of word i behind them.
-pub point_next : {l m n : List ℕ} {at reached next : ℕ} (table : List ℕ) (i : ℕ) → at ≤ length l → i < length table
-    → Wrote l at (point_lines 0 (take i table)) reached m → Wrote m reached (point_line i (get_or table i 0)) next n
-    → Wrote l at (point_lines 0 (take (i + 1) table)) next n
-point_next table i room h before line = wrote_same (sym lines) (joined room before line)
+pub point_next : {w v u : Writer} (table : List ℕ) (i : ℕ) → w.at ≤ length w.out.now → i < length table
+    → Writes w (point_lines 0 (take i table)) v → Writes v (point_line i (get_or table i 0)) u → Writes w (point_lines 0 (take (i + 1) table)) u
+point_next table i room h before line = written_as (sym lines) (both_written room before line)
   where
     count : 0 + length (take i table) ≡ i
     count = zero-add (length (take i table)) ∙ length-take-le i table (omega arith)

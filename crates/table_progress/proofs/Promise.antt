@@ -4,7 +4,7 @@ use mathlib.Core.List.{List}
 use Prim.Native.Nat.{ℕ}
 use Rattle.word.proofs.Unique.{both_are}
 use Rattle.table_fields.specs.Writing.{Wrote}
-use Rattle.table.specs.declared.JobLine.{JobLine}
+use Rattle.table.specs.Judged.{JobLine}
 use Rattle.table.specs.declared.Tool.{Tool}
 use Rattle.table_progress.specs.Printed.{JobPrinted}
 

@@ -16,12 +16,16 @@ use Rattle.plan.proofs.Accepting.{accepted}
 use Rattle.plan.proofs.SpanLaws.{sound-span}
 use Rattle.reason.specs.RowTrees.{row_tree}
 use Rattle.fold.specs.Folded.{Folded}
+use Rattle.reason.specs.declared.Reason.{Reason as Reasons}
+use Rattle.reason.specs.declared.Reason.TheVariants.{OperandStays, LengthsAddOver, LengthTimesOver, AgainstProduct, TwoProducts, ExponentNeither, WouldFold}
+use Rattle.reason.specs.Answer.{reason_number}
 use Rattle.reason.specs.Reasons.{operand-stays, lengths-add, length-times, against_product, two_products, exponent-neither, Reason, would_fold, stays}
 use Rattle.reason.proofs.Numbers.{reason_of}
 use Rattle.reason.proofs.OneReason.{one_reason}
 use Rattle.reason.proofs.SoundRows.{row_has_reason, row_reason}
-use Rattle.table_fields.specs.Writing.{Wrote}
-use Rattle.table_fields.proofs.Joining.{wrote_nothing, wrote_same, joined}
+use Rattle.table_fields.specs.declared.writer.Writer.{Writer}
+use Rattle.table_fields.specs.Writer.{Writes}
+use Rattle.table_fields.proofs.Joining.{none_written, written_as, both_written}
 use Rattle.table.specs.Lines.{row_line}
 use Rattle.table.specs.Run.{RowsPrint, no_row, passed_over, explained}
 use Rattle.table_progress.specs.Printed.{TextsWithin, row_prints, rows_print}
@@ -48,6 +52,15 @@ known_reason (stays h (against_product x)) = (omega arith, omega arith)
 known_reason (stays h (two_products x)) = (omega arith, omega arith)
 known_reason (stays h (exponent-neither x)) = (omega arith, omega arith)
 
+numbered : (reason : Reasons) → 1 ≤ reason_number reason
+numbered OperandStays = omega arith
+numbered LengthsAddOver = omega arith
+numbered LengthTimesOver = omega arith
+numbered AgainstProduct = omega arith
+numbered TwoProducts = omega arith
+numbered ExponentNeither = omega arith
+numbered WouldFold = omega arith
+
 -- ---- the first r rows of a plan that no call refuses
 module _ (formula p : List ℕ) (good : refusal p ≡ 0) where
   shown : (r : ℕ) → r < row_count p → 3 ≤ kind (row p r) → Reason 64 (row_tree p r) (reason_of (row_tree p r))
@@ -60,21 +73,38 @@ module _ (formula p : List ℕ) (good : refusal p ≡ 0) where
       let (rises, short) = sound-span p r (accepted p good).1 h in
       subst (λ y. (first_byte y ≤ end_byte y) × (end_byte y ≤ length formula) × (end_byte y ≤ longest_text)) (sym same) (omega (arith, rises), within r h, short)
 
-  -- The number that the code works out for row r, and the line that it writes.
-  module _ {x : Row} {n : ℕ} (r : ℕ) (h : r < row_count p) (same : x ≡ row p r) (some : 3 ≤ kind x) (answered : n ≡ row_reason p r) where
-    operates : 3 ≤ kind (row p r)
-    operates = subst (λ y. 3 ≤ kind y) same some
-
-    is_shown : n ≡ reason_of (row_tree p r)
+  -- What row r prints, by the reason that the code finds for it.
+  module _ (r : ℕ) (h : r < row_count p) where
+    by_kind : (t : Bool) → ltb (kind (row p r)) 3 ≡ t → row_reason p r ≡ cond t 0 (reason_of (row_tree p r))
     unfolding row_reason
-    is_shown = answered ∙ ap (λ t. cond t 0 (reason_of (row_tree p r))) (le-ltb (kind (row p r)) 3 operates)
+    by_kind t e = ap (λ u. cond u 0 (reason_of (row_tree p r))) e
 
-    pub reason_known : (1 ≤ n) × (n ≤ 7)
-    reason_known = subst (λ k. (1 ≤ k) × (k ≤ 7)) (sym is_shown) (known_reason (shown r h operates))
+    none-explained : 0 ≡ row_reason p r → row_prints formula p r ≡ []
+    none-explained none = go (ltb (kind (row p r)) 3) refl
+      where
+        go : (t : Bool) → ltb (kind (row p r)) 3 ≡ t → row_prints formula p r ≡ []
+        go true e = nothing-printed formula p r (ltb-true (kind (row p r)) 3 e)
+        go false e =
+            absurd (omega (arith, none, by_kind false e, (known_reason (shown r h (ltb-false (kind (row p r)) 3 e))).0))
 
-    pub line-printed : {out out' : List ℕ} {at next : ℕ} → Wrote out at (row_line formula r x n) next out' → Wrote out at (row_prints formula p r) next out'
-    line-printed wrote =
-        wrote_same (ap₂ (λ y k. row_line formula r y k) same is_shown ∙ sym (row-printed formula p r operates (shown r h operates) (shown r h operates))) wrote
+    operates : (reason : Reasons) → reason_number reason ≡ row_reason p r → 3 ≤ kind (row p r)
+    operates reason answered = go (ltb (kind (row p r)) 3) refl
+      where
+        go : (t : Bool) → ltb (kind (row p r)) 3 ≡ t → 3 ≤ kind (row p r)
+        go true e = absurd (omega (arith, numbered reason, answered, by_kind true e))
+        go false e = ltb-false (kind (row p r)) 3 e
+
+    pub nothing-written : 0 ≡ row_reason p r → (w : Writer) → Writes w (row_prints formula p r) w
+    nothing-written none w = written_as (sym (none-explained none)) (none_written w)
+
+    pub line-written : {x : Row} → x ≡ row p r → (reason : Reasons) → reason_number reason ≡ row_reason p r → {w v : Writer}
+        → Writes w (row_line formula r x (reason_number reason)) v → Writes w (row_prints formula p r) v
+    line-written same reason answered line =
+        let some = operates reason answered in
+        written_as
+        (ap₂ (λ y k. row_line formula r y k) same (answered ∙ by_kind false (le-ltb (kind (row p r)) 3 some))
+        ∙ sym (row-printed formula p r some (shown r h some) (shown r h some)))
+        line
 
   pub rows_said : (r : ℕ) → r ≤ row_count p → RowsPrint formula p r (rows_print formula p r)
   unfolding rows_print
@@ -99,14 +129,8 @@ module _ (formula p : List ℕ) (good : refusal p ≡ 0) where
       ap₂ ◌++◌ (rows_only (omega arith) before) (sym (row-printed formula p r some given (shown r h some)))
 
 -- ---- as the code writes them
--- A row of kinds 0 to 2.
-pub nothing_written : (formula p : List ℕ) (r : ℕ) {x : Row} → x ≡ row p r → kind x < 3 → (out : List ℕ) (at : ℕ) → Wrote out at (row_prints formula p r) at out
-nothing_written formula p r same few out at =
-    wrote_same (sym (nothing-printed formula p r (subst (λ y. kind y < 3) same few))) (wrote_nothing out at)
-
 -- What row r prints, behind what the rows before it print
-pub row_next : {l m n : List ℕ} {at reached next : ℕ} (formula p : List ℕ) (r : ℕ) → at ≤ length l
-    → Wrote l at (rows_print formula p r) reached m → Wrote m reached (row_prints formula p r) next n
-    → Wrote l at (rows_print formula p (r + 1)) next n
+pub row_next : {w v u : Writer} (formula p : List ℕ) (r : ℕ) → w.at ≤ length w.out.now
+    → Writes w (rows_print formula p r) v → Writes v (row_prints formula p r) u → Writes w (rows_print formula p (r + 1)) u
 unfolding rows_print
-row_next formula p r room before line = wrote_same (ap (rows_print formula p) (sym (add-one r))) (joined room before line)
+row_next formula p r room before line = written_as (ap (rows_print formula p) (sym (add-one r))) (both_written room before line)

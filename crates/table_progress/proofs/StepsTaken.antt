@@ -2,8 +2,8 @@
 use mathlib.Core.Path.{◌≡◌, refl, sym, ap, ap₂, subst, ◌∙◌}
 use mathlib.Core.Bool.{Bool, true, false, cond}
 use mathlib.Core.List.{List, [], ◌∷◌, ◌++◌, append-nil}
-use Prim.Native.Nat.{ℕ, suc, ◌+◌, ◌-◌, ◌≤◌, ◌<◌}
-use native.Mathlib.Nat.{zero-add, sub-zero}
+use Prim.Native.Nat.{ℕ, suc, ◌+◌, ◌≤◌, ◌<◌}
+use native.Mathlib.Nat.{zero-add}
 use native.Mathlib.Omega.{arith}
 use lib.Dec.{eqb, ltb}
 use lib.ListN.{length, take, drop, take-append-drop}
@@ -18,14 +18,13 @@ use Rattle.table.specs.declared.Tool.{Tool}
 use Rattle.table.proofs.PartsFound.{before-taken}
 use Rattle.table.proofs.PartsInLines.{unparted, none-counted}
 use Rattle.table_progress.specs.declared.Progress.{Progress}
-use Rattle.table_progress.specs.declared.Stepped.{Stepped}
 use Rattle.table_progress.specs.Run.{line_prints, end_prints}
-use Rattle.table_progress.specs.Steps.{awaits, ended, Buffers, is_within_bounds, ready, held_with, over}
+use Rattle.table_progress.specs.Steps.{Stepped, awaits, ended, Buffers, ready, held_with, over}
 use Rattle.table_progress.specs.Steps.{Outcome, refused_step, line_step, part_step, stepped, last_line, with_end, finished}
 use Rattle.table_progress.specs.Runs.{lent}
-use Rattle.table_progress.proofs.Holding.{Held, put_front, front_length, wrote_fits}
+use Rattle.table_progress.proofs.Holding.{Held, put_front, wrote_fits}
 use Rattle.table_progress.proofs.LinesEnded.{LineEnded}
-use Rattle.table_progress.proofs.Readiness.{Ready, has_room, is-ready, refused-step, refused_end}
+use Rattle.table_progress.proofs.Readiness.{refused-step, refused_end}
 
 -- ---- a test that is known picks one of two
 one_picked : (t : Bool) (x y : Outcome) → t ≡ true → x ≡ cond t x y
@@ -44,26 +43,6 @@ feed_counted b (c ∷ s) some = go (eqb c b) some (feed_counted b s)
         → 0 < cond t (suc (count b s)) (count b s)
     go true some rest = omega arith
     go false some rest = rest (λ e. some (ap suc e))
-
--- ---- what the tests say
--- The buffers are long enough, and the progress is within bounds.
-pub record Accepted (p : Progress) (b : Buffers) : Type 0 where
-  pub is-ready : ready p b ≡ true
-  pub room : Ready p b
-
-module _ (p : Progress) (b : Buffers) {room : Bool} (tested : room ≡ has_room b) where
-  pub no_room : room ≡ false → ready p b ≡ false
-  no_room e = rw (← tested, e)
-
-  module _ (enough : room ≡ true) {far : Bool} (tested-too : far ≡ is_within_bounds p) where
-    has_room_lem : has_room b ≡ true
-    has_room_lem = sym tested ∙ enough
-
-    pub out_of_bounds : far ≡ false → ready p b ≡ false
-    out_of_bounds e = rw (has_room_lem, ← tested-too, e)
-
-    pub accepted : far ≡ true → Accepted p b
-    accepted e = let tests : ready p b ≡ true = rw (has_room_lem, sym tested-too ∙ e) in record { is-ready = tests; room = is-ready p b tests }
 
 -- ---- refused
 module _ (tool : Tool) (p : Progress) (b : Buffers) where
@@ -94,12 +73,12 @@ module _ (tool : Tool) (p : Progress) (b : Buffers) where
 
   -- ---- a step
   module _ (input : List ℕ) (is-ready : ready p b ≡ true) (end : ℕ) (found : end ≡ 0 + length (before line_feed (drop 0 input)))
-      {held : ℕ} {line : List ℕ} (holding : Held p.held b.line (part 0 end input) held line) where
+      {held : ℕ} {line : List ℕ} (holding : Held p.held b.line (take end input) held line) where
     feed_place : end ≡ length (before line_feed input)
     feed_place = found ∙ zero-add (length (before line_feed input))
 
-    upto_feed : part 0 end input ≡ before line_feed input
-    upto_feed = ap (λ n. take n input) (sub-zero end ∙ feed_place) ∙ before-taken line_feed input
+    upto_feed : take end input ≡ before line_feed input
+    upto_feed = ap (λ n. take n input) feed_place ∙ before-taken line_feed input
 
     pub step-within-line : end ≡ length input
         → record {
@@ -123,7 +102,7 @@ module _ (tool : Tool) (p : Progress) (b : Buffers) where
         none = sym feed_place ∙ all
 
     pub step-whole-line : {p' : Progress} {w : ℕ} {defaults plan table out : List ℕ} → (end ≡ length input → ⊥)
-        → WholeLine (part 0 held line) b.out p' w defaults plan table out
+        → WholeLine (take held line) b.out p' w defaults plan table out
         → record { answer = record { ok = true; progress = p'; used = end + 1; wrote = w }; buffers = lent line defaults plan table out }
         ≡ stepped tool p input b
     unfolding stepped
@@ -135,10 +114,10 @@ module _ (tool : Tool) (p : Progress) (b : Buffers) where
         ∙ one_picked (ready p b) _ _ is-ready
       where
         l : List ℕ
-        l = held_with p.held b.line (part 0 end input)
+        l = held_with p.held b.line (take end input)
 
-        held_line : part 0 held line ≡ l
-        held_line = ap₂ (λ n m. take n m) (sub-zero held ∙ holding.0) holding.1 ∙ take-append_seam l (drop (length l) b.line)
+        held_line : take held line ≡ l
+        held_line = ap₂ (λ n m. take n m) holding.0 holding.1 ∙ take-append_seam l (drop (length l) b.line)
 
   -- ---- the bytes after the last line feed
   pub last_none : p.held ≡ 0 → record { answer = record { ok = true; progress = p; used = 0; wrote = 0 }; buffers = b } ≡ last_line tool p b
@@ -147,34 +126,32 @@ module _ (tool : Tool) (p : Progress) (b : Buffers) where
   -- They are a whole line, with room for what it prints in the first bytes of the output.
   module _ (some : p.held ≡ 0 → ⊥) (inside : p.held ≤ length b.line) (room : ℕ) (fits : room ≤ length b.out)
       {p' : Progress} {w : ℕ} {defaults plan table out : List ℕ}
-      (so : WholeLine (part 0 p.held b.line) (part 0 room b.out) p' w defaults plan table out)
-      (same : length out ≡ length (part 0 room b.out)) where
+      (so : WholeLine (take p.held b.line) (take room b.out) p' w defaults plan table out)
+      (same : length out ≡ length (take room b.out)) where
     abbrev printed : List ℕ
-    printed = line_prints tool (awaits p b.defaults) (part 0 p.held b.line)
+    printed = line_prints tool (awaits p b.defaults) (take p.held b.line)
 
     pub last_fits : w ≤ room
-    last_fits = omega (arith, wrote_fits so.1.0 same, front_length room b.out fits)
+    last_fits = omega (arith, wrote_fits so.1.0 same, length-take-le room b.out fits)
 
     pub last_some :
         record {
           answer = record { ok = true; progress = p'; used = 0; wrote = w };
-          buffers = lent b.line defaults plan table (part_put 0 room b.out out);
+          buffers = lent b.line defaults plan table (out ++ drop room b.out);
         }
         ≡ last_line tool p b
     last_some =
-        line-done (part 0 p.held b.line) 0 itself (so.0, (record { bytes = whole; next = so.1.0.next }, so.1.1))
-        ∙ ap (λ n. line_step tool p (take n b.line) 0 b) (sub-zero p.held)
+        line-done (take p.held b.line) 0 itself (so.0, (record { bytes = whole; next = so.1.0.next }, so.1.1))
         ∙ other_picked (eqb p.held 0) _ _ (ne_eqb p.held 0 some)
       where
-        itself : b.line ≡ over (part 0 p.held b.line) b.line
+        itself : b.line ≡ over (take p.held b.line) b.line
         itself =
-            sym (ap (λ n. take (p.held - 0) b.line ++ drop n b.line) (length-take-le (p.held - 0) b.line (omega arith))
-            ∙ take-append-drop (p.held - 0) b.line)
+            sym (ap (λ n. take p.held b.line ++ drop n b.line) (length-take-le p.held b.line inside) ∙ take-append-drop p.held b.line)
 
-        whole : part_put 0 room b.out out ≡ printed ++ drop (0 + length printed) b.out
+        whole : out ++ drop room b.out ≡ printed ++ drop (0 + length printed) b.out
         whole =
-            ap (λ s. s ++ drop (room - 0) b.out) (wrote-from-start so.1.0 refl)
-            ∙ put_front printed b.out (length printed) (room - 0) (omega (arith, so.1.0.next, last_fits)) (omega arith)
+            ap (λ s. s ++ drop room b.out) (wrote-from-start so.1.0 refl)
+            ∙ put_front printed b.out (length printed) room (omega (arith, so.1.0.next, last_fits)) fits
             ∙ ap (λ n. printed ++ drop n b.out) (sym (zero-add (length printed)))
 
   -- ---- the end of the input

@@ -15,9 +15,8 @@ use Rattle.plan.proofs.Keeping.{length-after}
 use Rattle.plan.proofs.Sharing.{length-points}
 use Rattle.fold.proofs.Compiled.{compiled_length}
 use Rattle.table.specs.Parts.{picked}
-use Rattle.table.specs.declared.JobLine.{JobLine}
 use Rattle.table.specs.Run.{job_plan}
-use Rattle.table.specs.Judged.{is_header, judged_defaults, judged_job}
+use Rattle.table.specs.Judged.{JobLine, is_header, judged_defaults, judged_job}
 use Rattle.table.specs.declared.Tool.{Tool}
 use Rattle.table.specs.declared.Tool.TheVariants.{Tables, Reasons}
 use Rattle.table.proofs.PartsJudged.{job_small}

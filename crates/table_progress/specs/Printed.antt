@@ -8,11 +8,10 @@ use Rattle.reason.specs.RowTrees.{row_tree}
 use Rattle.reason.proofs.Numbers.{reason_of}
 use Rattle.table_fields.specs.Writing.{Wrote}
 use Rattle.table.specs.Parts.{picked}
-use Rattle.table.specs.Judged.{judged_job}
+use Rattle.table.specs.Judged.{JobLine, judged_job}
 use Rattle.table.specs.Lines.{no_line, job_line, point_lines, row_line}
 use Rattle.table.specs.declared.Tool.{Tool}
 use Rattle.table.specs.declared.Tool.TheVariants.{Tables, Reasons}
-use Rattle.table.specs.declared.JobLine.{JobLine}
 use Rattle.table.specs.Run.{job_plan}
 
 -- ---- what a tool prints behind the `job` line

@@ -1,6 +1,6 @@
 -- One step of a run over lent buffers: what it answers, and every byte and word afterwards, for all inputs. The theorem that steps add up to
 -- the run is in proofs/Adding.antt.
-use Rattle.std.specs.Prelude.{Bool, true, false, cond, ◌&&◌, List, ◌++◌, ℕ, ◌+◌, ◌-◌, ◌*◌, ◌^◌, eqb, leb, ltb, length, take, drop}
+use Rattle.std.specs.Prelude.{Bool, true, false, cond, ◌&&◌, List, ◌++◌, ℕ, ◌+◌, ◌-◌, ◌*◌, ◌^◌, eqb, leb, ltb, length, take, drop, Result, Ok, Err}
 use Rattle.plan.specs.Measures.{plan_length}
 use Rattle.formula.specs.Refusals.{count}
 use Rattle.formula_scan.specs.Verdict.{verdict}
@@ -11,7 +11,8 @@ use Rattle.table_progress.specs.Printed.{verdict_plan, verdict_table}
 use Rattle.table_progress.specs.declared.Awaited.{Awaited}
 use Rattle.table_progress.specs.declared.Awaited.TheVariants.{Header, Defaults, Job, Nothing}
 use Rattle.table_progress.specs.declared.Progress.{Progress}
-use Rattle.table_progress.specs.declared.Stepped.{Stepped}
+use Rattle.table_progress.specs.declared.Stepped.{Stepped as Step}
+use Rattle.table_progress.specs.declared.NotDone.{NotDone}
 use Rattle.table_progress.specs.Run.{Awaits, the_header, the_defaults, a_job, nothing, line_prints, end_prints}
 
 -- ---- where a run stands
@@ -95,6 +96,18 @@ abbrev pub over : List ℕ → List ℕ → List ℕ
 over s buffer = s ++ drop (length s) buffer
 
 -- ---- a step, and the end
+-- Whether the step was done, where the run stands now, the input bytes used and the output bytes written.
+pub record Stepped : Type 0 where
+  pub ok : Bool
+  pub progress : Progress
+  pub used : ℕ
+  pub wrote : ℕ
+
+-- What an answer of the code says, of a step from the progress p: a step that is not done leaves the run where it stands.
+abbrev pub as_stepped : Progress → Result Step NotDone → Stepped
+as_stepped p (Ok step) = record { ok = true; progress = step.progress; used = step.used; wrote = step.wrote }
+as_stepped p (Err not_done) = record { ok = false; progress = p; used = 0; wrote = 0 }
+
 pub record Outcome : Type 0 where
   pub answer : Stepped
   pub buffers : Buffers

@@ -2,24 +2,38 @@
 // What a run prints is decided in `table_steps`; here bytes are read and written, and buffers are lent.
 #![tactic(auto)]
 
-ghost use Rattle.std.specs.Prelude.{◌≡◌, true, ◌+◌, ◌≤◌, length, IfOk, OnErr};
+ghost use Rattle.std.specs.Prelude.{◌≡◌, ◌≤◌, length, IfOk, OnErr};
+ghost use Rattle.table_runs.specs.declared.TheConstants.{OUTPUT_BYTES};
 
 use plan::PLAN_WORDS;
 use std::io;
 use std::io::Read;
-use table::Tool;
-use table_progress::{Progress, Stepped};
+use table::{LONGEST_LINE, MOST_POINTS, Tool};
+use table_progress::{HELD_AT_MOST, MOST_PRINTED, NotDone, Progress};
 
-// The room that a step asks for in the output buffer.
-const MOST_PRINTED: usize = 172166;
+// The bytes that are read at once.
+const INPUT_BYTES: usize = 65536;
 
-// Whether the run goes on, where it stands, how much input the last step used, and how much of the output buffer is filled.
-#[derive(Clone, Copy)]
-struct Going {
-    ok: bool,
-    progress: Progress,
-    used: usize,
-    filled: usize,
+// The output buffer: what several lines print is written at once.
+const OUTPUT_BYTES: usize = 262144;
+
+// What ends a run before the end of its input: a step that is not done, or a write that fails.
+#[derive(Drop)]
+enum Stop {
+    NotDone,
+    Failed(io::Error),
+}
+
+impl From<NotDone> for Stop {
+    fn from(_not_done: NotDone) -> Stop {
+        Stop::NotDone
+    }
+}
+
+impl From<io::Error> for Stop {
+    fn from(error: io::Error) -> Stop {
+        Stop::Failed(error)
+    }
 }
 
 // Tells on standard error what failed, and why.
@@ -29,249 +43,142 @@ fn tell(rt: &impl Eprint, what: &str, error: io::Error) {
 
 // Writes the bytes. A failure is told on standard error.
 fn write<R: Print + Eprint>(rt: &R, bytes: &[u8]) -> io::Result<()> {
-    match rt.write_all(bytes) {
-        Ok(()) => Ok(()),
-        Err(error) => {
-            tell(rt, "write", error);
-            Err(error)
-        }
-    }
+    rt.write_all(bytes)
+        .inspect_err(|error| tell(rt, "write", *error))
 }
 
-// Reads into the buffer: how many bytes came, 0 at the end of the input. A failure is told on standard error, kept in `outcome`, and ends the input.
-fn read(
-    rt: &impl Eprint,
-    from: &mut impl Read,
-    input: &mut [u8],
-    outcome: &mut io::Result<()>,
-) -> usize
-    ensures { result ≤ length input.new }
+// Reads into the buffer: how many bytes came, 0 at the end of the input. A failure is told on standard error.
+fn read(rt: &impl Eprint, from: &mut impl Read, input: &mut [u8]) -> io::Result<usize>
+    ensures { IfOk result (λ got. got ≤ length input.new) }
 {
-    match from.read(input) {
-        Ok(got) => got,
-        Err(error) => {
-            tell(rt, "read", error);
-            *outcome = Err(error);
-            0
-        }
-    }
+    from.read(input)
+        .inspect_err(|error| tell(rt, "read", *error))
 }
 
-// Writes what fills the output buffer where a step would find too little room behind it, and answers how much of it is filled then.
-fn make_room<R: Print + Eprint>(rt: &R, out: &[u8], filled: usize) -> io::Result<usize>
-    requires { filled ≤ length out.now }
-    ensures { IfOk result (λ left. left ≤ length out.now) }
-{
-    if MOST_PRINTED <= out.len() - filled {
-        return Ok(filled);
-    }
-    write(rt, &out[0..filled])?;
-    Ok(0)
-}
-
-// A step of the run that writes behind the filled part of the output buffer.
-fn step(
+// A run: where it stands, its buffers, and how much of the output buffer is filled.
+#[derive(Drop)]
+struct ToolRun {
     tool: Tool,
     progress: Progress,
+    line: [u8; HELD_AT_MOST],
+    defaults: [u8; LONGEST_LINE],
+    plan: [u64; PLAN_WORDS],
+    table: [u64; MOST_POINTS],
+    out: [u8; OUTPUT_BYTES],
     filled: usize,
-    input: &[u8],
-    line: &mut [u8],
-    defaults: &mut [u8],
-    plan: &mut [u64],
-    table: &mut [u64],
-    out: &mut [u8],
-) -> Stepped
-    requires { filled ≤ length out.old }
-    ensures wrote_in_bounds { filled + result.wrote ≤ length out.new }
-    ensures used_in_bounds { result.used ≤ length input.now }
-    ensures le_used { result.ok ≡ true → 1 ≤ length input.now → 1 ≤ result.used }
-{
-    table_steps::step(
-        tool,
-        progress,
-        input,
-        line,
-        defaults,
-        plan,
-        table,
-        &mut out[filled..],
-    )
+    ghost within: { filled ≤ OUTPUT_BYTES },
 }
 
-// What the end of the input prints.
-fn finish(
-    tool: Tool,
-    progress: Progress,
-    line: &[u8],
-    defaults: &mut [u8],
-    plan: &mut [u64],
-    table: &mut [u64],
-    out: &mut [u8],
-) -> Stepped
-    ensures { result.wrote ≤ length out.new }
-{
-    table_steps::finish(tool, progress, line, defaults, plan, table, out)
-}
-
-// A step with room made for it. Where the write that makes room fails, nothing of what is lent has changed.
-fn turn<R: Print + Eprint>(
-    rt: &R,
-    tool: Tool,
-    going: Going,
-    input: &[u8],
-    line: &mut [u8],
-    defaults: &mut [u8],
-    plan: &mut [u64],
-    table: &mut [u64],
-    out: &mut [u8],
-) -> io::Result<Going>
-    requires { going.filled ≤ length out.old }
-    ensures filled_in_bounds { IfOk result (λ next. next.filled ≤ length out.new) }
-    ensures used_in_bounds { IfOk result (λ next. next.used ≤ length input.now) }
-    ensures le_used { IfOk result (λ next. next.ok ≡ true → 1 ≤ length input.now → 1 ≤ next.used) }
-    ensures refused_line { OnErr result (line.new ≡ line.old) }
-    ensures refused_defaults { OnErr result (defaults.new ≡ defaults.old) }
-    ensures refused_plan { OnErr result (plan.new ≡ plan.old) }
-    ensures refused_table { OnErr result (table.new ≡ table.old) }
-    ensures refused_out { OnErr result (out.new ≡ out.old) }
-{
-    let progress = going.progress;
-    let begin = make_room(rt, out, going.filled)?;
-    let stepped = step(
-        tool, progress, begin, input, line, defaults, plan, table, out,
-    );
-    let reached = stepped.progress;
-    let filled = begin + stepped.wrote;
-    Ok(Going {
-        ok: stepped.ok,
-        progress: reached,
-        used: stepped.used,
-        filled,
-    })
-}
-
-// All steps over some input, and what they print written.
-fn take<R: Print + Eprint>(
-    rt: &R,
-    tool: Tool,
-    progress: Progress,
-    input: &[u8],
-    line: &mut [u8],
-    defaults: &mut [u8],
-    plan: &mut [u64],
-    table: &mut [u64],
-    out: &mut [u8],
-) -> io::Result<Going> {
-    let mut going = Going {
-        ok: true,
-        progress,
-        used: 0,
-        filled: 0,
-    };
-    let mut at = 0;
-    while at < input.len() {
-        let next = turn(
-            rt,
-            tool,
-            going,
-            &input[at..],
-            line,
-            defaults,
-            plan,
-            table,
-            out,
-        )?;
-        if !next.ok {
-            return Ok(next);
-        }
-        going = next;
-        at += next.used;
+impl ToolRun {
+    // Writes what fills the output buffer. Where that fails, nothing has changed.
+    fn flush<R: Print + Eprint>(&mut self, rt: &R) -> io::Result<()>
+        ensures { OnErr result (self.new ≡ self.old) }
+    {
+        write(rt, &self.out[..self.filled])?;
+        self.filled = 0;
+        Ok(())
     }
-    let reached = going.progress;
-    let filled = going.filled;
-    write(rt, &out[0..filled])?;
-    Ok(Going {
-        ok: true,
-        progress: reached,
-        used: at,
-        filled: 0,
-    })
-}
 
-// The end of the input, and what it prints written.
-fn end<R: Print + Eprint>(
-    rt: &R,
-    tool: Tool,
-    progress: Progress,
-    line: &[u8],
-    defaults: &mut [u8],
-    plan: &mut [u64],
-    table: &mut [u64],
-    out: &mut [u8],
-) -> io::Result<()> {
-    let last = finish(tool, progress, line, defaults, plan, table, out);
-    let wrote = last.wrote;
-    write(rt, &out[0..wrote])
-}
-
-// Reads to the end of the input or until a write fails. Before it reads, and perhaps waits, all that the input so far prints is written. A proved loop has
-// to end, and nothing says that an input does: the loop counts its turns down, from a number that no run uses up.
-fn read_and_write<R: Print + Eprint>(
-    rt: &R,
-    from: &mut impl Read,
-    tool: Tool,
-    input: &mut [u8],
-    line: &mut [u8],
-    defaults: &mut [u8],
-    plan: &mut [u64],
-    table: &mut [u64],
-    out: &mut [u8],
-) -> io::Result<()> {
-    let mut outcome = Ok(());
-    let mut progress = table_steps::start();
-    let mut got = read(rt, from, input, &mut outcome);
-    let mut turns = u64::MAX;
-    while got > 0 && turns > 0 {
-        let next = take(
-            rt,
-            tool,
-            progress,
-            &input[0..got],
-            line,
-            defaults,
-            plan,
-            table,
-            out,
-        )?;
-        if !next.ok {
-            return Ok(());
+    // Room for what a step prints. Where the write that makes it fails, nothing has changed.
+    fn make_room<R: Print + Eprint>(&mut self, rt: &R) -> io::Result<()>
+        ensures { OnErr result (self.new ≡ self.old) }
+    {
+        if self.out.len() - self.filled < MOST_PRINTED {
+            self.flush(rt)?;
         }
-        let reached = next.progress;
-        progress = reached;
-        got = read(rt, from, input, &mut outcome);
-        turns -= 1;
+        Ok(())
     }
-    end(rt, tool, progress, line, defaults, plan, table, out)?;
-    outcome
+
+    // A step, which writes behind the filled part of the output buffer. Answers how much of the input it used.
+    fn step(&mut self, input: &[u8]) -> Result<usize, NotDone>
+        ensures used_in_bounds { IfOk result (λ used. used ≤ length input.now) }
+        ensures moves { IfOk result (λ used. 1 ≤ length input.now → 1 ≤ used) }
+    {
+        let filled = self.filled;
+        let stepped = table_steps::step(
+            self.tool,
+            self.progress,
+            input,
+            &mut self.line,
+            &mut self.defaults,
+            &mut self.plan,
+            &mut self.table,
+            &mut self.out[filled..],
+        )?;
+        self.progress = stepped.progress;
+        self.filled = filled + stepped.wrote;
+        Ok(stepped.used)
+    }
+
+    // All steps over some input, and what they print written.
+    // Kept: a `while`, since each step tells anew how far it came, and one that is not done ends the run.
+    fn take<R: Print + Eprint>(&mut self, rt: &R, input: &[u8]) -> Result<(), Stop> {
+        let mut left = input;
+        while !left.is_empty() {
+            self.make_room(rt)?;
+            let used = self.step(left)?;
+            left = &left[used..];
+        }
+        self.flush(rt)?;
+        Ok(())
+    }
+
+    // The end of the input, and what it prints written.
+    fn end<R: Print + Eprint>(&mut self, rt: &R) -> io::Result<()> {
+        let finished = table_steps::finish(
+            self.tool,
+            self.progress,
+            &self.line,
+            &mut self.defaults,
+            &mut self.plan,
+            &mut self.table,
+            &mut self.out,
+        );
+        match finished {
+            Ok(stepped) => write(rt, &self.out[..stepped.wrote]),
+            Err(NotDone) => Ok(()),
+        }
+    }
+
+    // Reads to the end of the input or until a read or a write fails; a read that fails ends the input. Before it reads, and perhaps waits, all that the input
+    // so far prints is written. A proved loop has to end, and nothing says that an input does: the loop counts its turns, up to a number that no run
+    // comes to.
+    fn read_and_write<R: Print + Eprint>(
+        &mut self,
+        rt: &R,
+        from: &mut impl Read,
+    ) -> Result<(), Stop> {
+        let mut input = [0; INPUT_BYTES];
+        let mut outcome = Ok(());
+        for _turn in 0..u64::MAX {
+            match read(rt, from, &mut input) {
+                Ok(0) => break,
+                Ok(got) => self.take(rt, &input[..got])?,
+                Err(error) => {
+                    outcome = Err(Stop::Failed(error));
+                    break;
+                }
+            }
+        }
+        self.end(rt)?;
+        outcome
+    }
 }
 
 // A run with buffers of its own. A read or a write that fails is its answer too.
 pub fn run<R: Print + Eprint>(rt: &R, from: &mut impl Read, tool: Tool) -> io::Result<()> {
-    let mut input = [0u8; 65536];
-    let mut line = [0u8; 4097];
-    let mut defaults = [0u8; 4096];
-    let mut plan = [0u64; PLAN_WORDS];
-    let mut table = [0u64; 4096];
-    let mut out = [0u8; 262144];
-    read_and_write(
-        rt,
-        from,
+    let mut tool_run = ToolRun {
         tool,
-        &mut input,
-        &mut line,
-        &mut defaults,
-        &mut plan,
-        &mut table,
-        &mut out,
-    )
+        progress: table_steps::start(),
+        line: [0; HELD_AT_MOST],
+        defaults: [0; LONGEST_LINE],
+        plan: [0; PLAN_WORDS],
+        table: [0; MOST_POINTS],
+        out: [0; OUTPUT_BYTES],
+        filled: 0,
+    };
+    match tool_run.read_and_write(rt, from) {
+        Err(Stop::Failed(error)) => Err(error),
+        Err(Stop::NotDone) | Ok(()) => Ok(()),
+    }
 }

@@ -2,28 +2,15 @@
 // What a whole line does is in `table_lines`; reading and writing files is the program's.
 #![tactic(auto)]
 
-ghost use Rattle.std.specs.Prelude.{◌≡◌, true, false, ◌+◌, ◌-◌, ◌^◌, ◌≤◌, ◌<◌, length};
+ghost use Rattle.std.specs.Prelude.{◌≡◌, true, ◌+◌, ◌-◌, ◌^◌, ◌≤◌, ◌<◌, length};
 ghost use Rattle.plan.specs.Measures.{plan_length};
 ghost use Rattle.table_progress.specs.Runs.{lent};
-ghost use Rattle.table_progress.specs.Steps.{started, have_room, is_within_bounds, most_printed, over, held_with, stepped, last_line, finished};
+ghost use Rattle.table_progress.specs.Steps.{started, have_room, is_within_bounds, ready, most_printed, over, held_with, as_stepped, stepped, last_line, finished};
 
 use plan::PLAN_WORDS;
-use table::Tool;
+use table::{LONGEST_JOB_LINE, LONGEST_LINE, MOST_POINTS, Tool};
 use table_fields::fields;
-use table_progress::{Awaited, LineDone, Progress, Stepped};
-
-// One byte more than a line may have.
-const HELD_AT_MOST: usize = 4097;
-
-const LONGEST_LINE: usize = 4096;
-
-const MOST_POINTS: usize = 4096;
-
-// Room for what the end of the input prints.
-const MOST_AT_THE_END: usize = 67;
-
-// Room for what any line and the end of the input print.
-const MOST_PRINTED: usize = 172166;
+use table_progress::{Awaited, HELD_AT_MOST, LineDone, MOST_PRINTED, NotDone, Progress, Stepped};
 
 pub fn start() -> Progress
     ensures { result ≡ started }
@@ -37,46 +24,35 @@ pub fn start() -> Progress
 }
 
 // The buffers are long enough.
-fn have_room(line: usize, defaults: usize, plan: usize, table: usize, out: usize) -> bool
-    ensures { result ≡ have_room line defaults plan table out }
+fn have_room(line: &[u8], defaults: &[u8], plan: &[u64], table: &[u64], out: &[u8]) -> bool
+    ensures { result ≡ have_room (length line.now) (length defaults.now) (length plan.now) (length table.now) (length out.now) }
 {
-    if line < HELD_AT_MOST {
-        return false;
-    }
-    if defaults < LONGEST_LINE {
-        return false;
-    }
-    if plan < PLAN_WORDS {
-        return false;
-    }
-    if table < MOST_POINTS {
-        return false;
-    }
-    MOST_PRINTED <= out
+    HELD_AT_MOST <= line.len()
+        && LONGEST_LINE <= defaults.len()
+        && PLAN_WORDS <= plan.len()
+        && MOST_POINTS <= table.len()
+        && MOST_PRINTED <= out.len()
 }
 
 // The bounds that a call asks of a progress; whether a run comes to it is not asked.
 fn is_within_bounds(progress: Progress) -> bool
     ensures { result ≡ is_within_bounds progress }
 {
-    if HELD_AT_MOST < progress.held {
-        return false;
-    }
-    if LONGEST_LINE < progress.kept {
-        return false;
-    }
-    progress.number < u64::MAX
+    progress.held <= HELD_AT_MOST && progress.kept <= LONGEST_LINE && progress.number < u64::MAX
 }
 
-fn refused(progress: Progress) -> Stepped
-    ensures { result ≡ record { ok = false; progress = progress; used = 0; wrote = 0 } }
+// A call that is not refused.
+fn is_ready(
+    progress: Progress,
+    line: &[u8],
+    defaults: &[u8],
+    plan: &[u64],
+    table: &[u64],
+    out: &[u8],
+) -> bool
+    ensures { result ≡ ready progress (lent line.now defaults.now plan.now table.now out.now) }
 {
-    Stepped {
-        ok: false,
-        progress,
-        used: 0,
-        wrote: 0,
-    }
+    have_room(line, defaults, plan, table, out) && is_within_bounds(progress)
 }
 
 // More bytes of the line under way, as long as they may matter. Answers how many are held then.
@@ -86,18 +62,15 @@ fn hold(line: &mut [u8], held: usize, more: &[u8]) -> usize
     ensures value { result ≡ length (held_with held line.old more.now) }
     ensures line_after { line.new ≡ over (held_with held line.old more.now) line.old }
 {
-    let room = HELD_AT_MOST - held;
-    if more.len() <= room {
-        let end = held + more.len();
-        line[held..end].copy_from_slice(more);
-        return end;
-    }
-    line[held..HELD_AT_MOST].copy_from_slice(&more[0..room]);
-    HELD_AT_MOST
+    let taken = (HELD_AT_MOST - held).min(more.len());
+    let end = held + taken;
+    line[held..end].copy_from_slice(&more[..taken]);
+    end
 }
 
 // One step: the input up to its first line feed, or all of it where it has none. Lend the buffers again as they were left; `plan`, `table` and `out`
 // may be altered between steps.
+// Kept: the buffers are parameters, as the contract of the call names them; `last_line` is given them as they came.
 pub fn step(
     tool: Tool,
     progress: Progress,
@@ -107,47 +80,28 @@ pub fn step(
     plan: &mut [u64],
     table: &mut [u64],
     out: &mut [u8],
-) -> Stepped
-    ensures { record { answer = result; buffers = lent line.new defaults.new plan.new table.new out.new }
+) -> Result<Stepped, NotDone>
+    ensures { record { answer = as_stepped progress result; buffers = lent line.new defaults.new plan.new table.new out.new }
         ≡ stepped tool progress input.now (lent line.old defaults.old plan.old table.old out.old) }
 {
-    if !have_room(
-        line.len(),
-        defaults.len(),
-        plan.len(),
-        table.len(),
-        out.len(),
-    ) {
-        return refused(progress);
-    }
-    if !is_within_bounds(progress) {
-        return refused(progress);
+    if !is_ready(progress, line, defaults, plan, table, out) {
+        return Err(NotDone);
     }
     let end = fields::find(input, 0, b'\n');
-    let held = hold(line, progress.held, &input[0..end]);
+    let held = hold(line, progress.held, &input[..end]);
     if end == input.len() {
-        let awaited = progress.awaited;
-        return Stepped {
-            ok: true,
-            progress: Progress {
-                awaited,
-                number: progress.number,
-                held,
-                kept: progress.kept,
-            },
+        return Ok(Stepped {
+            progress: Progress { held, ..progress },
             used: end,
             wrote: 0,
-        };
+        });
     }
-    let used = end + 1;
-    let done = table_lines::end_line(tool, progress, &line[0..held], defaults, plan, table, out);
-    let reached = done.progress;
-    Stepped {
-        ok: true,
-        progress: reached,
-        used,
+    let done = table_lines::end_line(tool, progress, &line[..held], defaults, plan, table, out);
+    Ok(Stepped {
+        progress: done.progress,
+        used: end + 1,
         wrote: done.wrote,
-    }
+    })
 }
 
 // The bytes after the last line feed, if there are any, are a whole line.
@@ -174,19 +128,18 @@ fn last_line(
         ≡ last_line tool progress (lent line.now defaults.old plan.old table.old out.old) }
     ensures wrote_in_bounds { result.wrote + 67 ≤ length out.old }
 {
-    let held = progress.held;
-    if held == 0 {
+    if progress.held == 0 {
         return LineDone { progress, wrote: 0 };
     }
-    let room = out.len() - MOST_AT_THE_END;
+    let room = out.len() - LONGEST_JOB_LINE;
     table_lines::end_line(
         tool,
         progress,
-        &line[0..held],
+        &line[..progress.held],
         defaults,
         plan,
         table,
-        &mut out[0..room],
+        &mut out[..room],
     )
 }
 
@@ -199,32 +152,18 @@ pub fn finish(
     plan: &mut [u64],
     table: &mut [u64],
     out: &mut [u8],
-) -> Stepped
-    ensures { record { answer = result; buffers = lent line.now defaults.new plan.new table.new out.new }
+) -> Result<Stepped, NotDone>
+    ensures { record { answer = as_stepped progress result; buffers = lent line.now defaults.new plan.new table.new out.new }
         ≡ finished tool progress (lent line.now defaults.old plan.old table.old out.old) }
 {
-    if !have_room(
-        line.len(),
-        defaults.len(),
-        plan.len(),
-        table.len(),
-        out.len(),
-    ) {
-        return refused(progress);
-    }
-    if !is_within_bounds(progress) {
-        return refused(progress);
+    if !is_ready(progress, line, defaults, plan, table, out) {
+        return Err(NotDone);
     }
     let done = last_line(tool, progress, line, defaults, plan, table, out);
-    let wrote = done.wrote;
-    let reached = done.progress;
-    let awaited = reached.awaited;
-    let more = table_lines::end_input(awaited, &mut out[wrote..]);
-    let all = wrote + more;
-    Stepped {
-        ok: true,
+    let more = table_lines::end_input(done.progress.awaited, &mut out[done.wrote..]);
+    Ok(Stepped {
         progress: table_lines::ended(),
         used: 0,
-        wrote: all,
-    }
+        wrote: done.wrote + more,
+    })
 }

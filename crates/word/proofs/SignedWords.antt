@@ -1,8 +1,6 @@
 -- Words read as signed numbers, over the width w: which number a word of the lower half is, and which a word of the upper half; their range and their words.
--- Then, at width 64, what the code computes is those numbers.
-use Rattle.std.proofs.Common.{◌≡◌, ℕ, zero, suc, ◌+◌, ◌-◌, ◌^◌, ◌<◌, ◌≤◌, Bool, true, false, T, ltb, ℤ, pos, negsuc, ◌-ℤ◌, neg_ℤ, ◌≤ℤ◌, sym, refl, ap, ◌∙◌, not-suc-le-zero, pow-suc, arith, le→leb, pow_pos, w64, SFits, to_z, of_z, ltb-false, ltb-true, le-ltb, lt-ltb}
+use Rattle.std.proofs.Common.{◌≡◌, ℕ, zero, suc, ◌+◌, ◌-◌, ◌^◌, ◌<◌, ◌≤◌, Bool, true, false, T, ltb, ℤ, pos, negsuc, ◌-ℤ◌, neg_ℤ, ◌≤ℤ◌, refl, not-suc-le-zero, pow-suc, arith, le→leb, pow_pos, ltb-false, ltb-true, le-ltb, lt-ltb}
 use lib.Signed.{le_z}
-use mir.ValLaws.{to_z_pos, to_z-of_z}
 use Rattle.word.specs.Signed.{half, signed, word_of}
 
 -- There are twice as many words as half of them.
@@ -50,22 +48,3 @@ signed_range w d some fits = by_halves w d (λ z. (neg_ℤ (pos (half w)) ≤ℤ
 -- The word of the number that a word is read as is that word.
 pub signed_word : (w d : ℕ) → d < 2 ^ w → word_of w (signed w d) ≡ d
 signed_word w d fits = by_halves w d (λ z. word_of w z ≡ d) fits (λ low. refl) (λ high. omega arith)
-
--- ---- at width 64: `of_z w64` is a number's bits, and `to_z w64` the number that bits are read as
-pub read_low : (d : ℕ) → d < 2 ^ 63 → to_z w64 d ≡ signed 64 d
-read_low d low = to_z_pos w64 d low ∙ sym (signed_low 64 d low)
-
--- -1 less the distance from d to the largest word
-module _ (d : ℕ) (high : 2 ^ 63 ≤ d) (fits : d < 2 ^ 64) where
-  minus_one_less : negsuc 0 -ℤ to_z w64 (2 ^ 64 - 1 - d) ≡ negsuc (2 ^ 64 - 1 - d)
-  minus_one_less = rw (to_z_pos w64 (2 ^ 64 - 1 - d) (omega arith)) (at (2 ^ 64 - 1 - d))
-    where
-      at : (k : ℕ) → negsuc 0 -ℤ pos k ≡ negsuc k
-      at zero = refl
-      at (suc k) = ap (λ n. negsuc (suc n)) (omega arith)
-
-  pub high_fits : SFits w64 (negsuc 0 -ℤ to_z w64 (2 ^ 64 - 1 - d))
-  high_fits = rw minus_one_less (record { sfits = omega arith })
-
-  pub read_high : to_z w64 (of_z w64 (negsuc 0 -ℤ to_z w64 (2 ^ 64 - 1 - d))) ≡ signed 64 d
-  read_high = to_z-of_z w64 _ high_fits ∙ minus_one_less ∙ ap negsuc (omega arith) ∙ sym (signed_high 64 d high fits)

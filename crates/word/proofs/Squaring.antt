@@ -1,6 +1,5 @@
 -- One turn of the power by squaring: what is left to multiply stays the same, for every modulus m.
-use Rattle.std.proofs.Common.{◌≡◌, ℕ, ◌+◌, ◌*◌, ◌/◌, ◌%◌, ◌^◌, ◌<◌, sym, refl, ap, ◌∙◌, mod-eq_of_lt, pow-suc, add-one, arith, pow-add}
-use native.Mathlib.Nat.{pow-zero}
+use Rattle.std.proofs.Common.{◌≡◌, ℕ, ◌+◌, ◌*◌, ◌/◌, ◌%◌, ◌^◌, sym, refl, ap, ◌∙◌, pow-suc, add-one, arith, pow-add}
 use Rattle.word.proofs.Modulo.{mod-mul-mod, pow-mod, mul_same}
 use Rattle.word.proofs.Ring.{pow_of_mul}
 
@@ -30,7 +29,3 @@ turn_odd m r s l odd taken squared =
 
     one_factor : s ^ l ≡ s ^ (l / 2 + l / 2) * s
     one_factor = ap (λ z. s ^ z) (omega arith ∙ add-one (l / 2 + l / 2)) ∙ pow-suc s (l / 2 + l / 2)
-
--- Where no factor is left, the product is the answer.
-pub turns_done : (m r s : ℕ) {l : ℕ} → r < m → l ≡ 0 → (r * s ^ l) % m ≡ r
-turns_done m r s small none = ap (λ z. (r * s ^ z) % m) none ∙ rw (pow-zero s) (ap (λ z. z % m) (omega arith)) ∙ mod-eq_of_lt small

@@ -1,16 +1,12 @@
-use Rattle.std.proofs.Common.{◌≡◌, ℕ, ◌+◌, ◌<◌, ◌≤◌, take, refl, ap, ◌∙◌, arith}
-use Rattle.chain.specs.Chain.{row}
-use Rattle.chain.proofs.Rows.{row_store}
+-- `kept` copies the words up to the given length over zeros.
+use Rattle.std.proofs.Common.{◌≡◌, ◌+◌, length, take, arith, length-take-le, rules}
+use Rattle.chain.proofs.Rows.{row-laid}
 use Rattle.chain_arrays.proofs.kept.Goals as goal
 
-ends : (i last : ℕ) → i ≤ last + 1 → last < i → i ≡ last + 1
-ends i last h g = omega arith
-
-pub loop-i-init : goal.loop-i-init
-loop-i-init c = (omega arith, c.zeros-r.ensures)
-
-pub loop-i-preserved : goal.loop-i-preserved
-loop-i-preserved c = (omega arith, row_store 17 _ _ (omega arith) c.loop-i.invariant.1 refl)
-
 pub returns : goal.returns
-returns c = c.loop-i.invariant.1 ∙ ap (λ k. row 17 (take k c.args.f)) (ends c.loop-i.i c.args.last c.loop-i.invariant.0 c.loop-i-test.false)
+returns c =
+    let f = c.args.f in
+    let n = c.args.last + 1 in
+    let long : length f ≡ 17 = search rules in
+    let copied = c.copy_from_slice.ensures.after in
+    rw (copied, c.zeros-r.ensures) (row-laid 17 n (take n f) (length-take-le n f (omega arith)) (omega arith))

@@ -1,27 +1,22 @@
-use Rattle.std.proofs.Common.{◌-◌, length, refl, ap, ◌∙◌, arith, length-set}
+use Rattle.std.proofs.Common.{◌-◌, length, get_or, ap, ◌∙◌, arith}
 use Rattle.chain.proofs.Shifting.{unturned, unturned_none, unturned_all, from_top_turn}
 use Rattle.chain_arrays.specs.Operations.{worked}
 use Rattle.chain_arrays.proofs.shift_from_top.Goals as goal
 
-pub loop-left-init : goal.loop-left-init
-loop-left-init c =
-    let f = c.args.f.now in
-    (omega arith, refl, unturned_none (worked c.args.operation) (length f - 1) f (omega arith))
+pub loop-i-init : goal.loop-i-init
+loop-i-init g c = let f = c.args.f.now in unturned_none (worked g.O.Operation.operation) (length f - 1) f (omega arith)
 
-pub loop-left-preserved : goal.loop-left-preserved
-loop-left-preserved c =
-    let turn = c.loop-left in
-    let args = c.args in
-    let f = args.f.now in
-    let operation = worked args.operation in
-    let at = turn.left - 2 in (
-      omega arith,
-      simp length-set (omega arith),
-      from_top_turn operation at f (omega arith) (turn.invariant.2 ∙ ap (λ k. unturned operation k f) (omega arith)) c.worked.ensures
-          ∙ ap (λ k. unturned operation k f) (omega arith),
-    )
+pub loop-i-preserved : goal.loop-i-preserved
+loop-i-preserved g c =
+    let operation = worked g.O.Operation.operation in
+    let turn = c.loop-i in
+    let f = c.args.f.now in
+    let at = turn.i - 1 - 1 in
+    from_top_turn operation at f (omega arith) (turn.invariant ∙ ap (λ k. unturned operation k f) (omega arith))
+    (c.worked.ensures ∙ ap (λ k. operation (get_or turn.f at 0) (get_or turn.f k 0)) (omega arith))
 
 pub returns : goal.returns
-returns c =
-    let args = c.args in
-    c.loop-left.invariant.2 ∙ ap (λ k. unturned (worked args.operation) k args.f.now) (omega arith) ∙ unturned_all (worked args.operation) args.f.now
+returns g c =
+    let operation = worked g.O.Operation.operation in
+    let f = c.args.f.now in
+    c.loop-i.invariant ∙ ap (λ k. unturned operation k f) (omega arith) ∙ unturned_all operation f

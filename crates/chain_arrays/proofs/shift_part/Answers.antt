@@ -1,33 +1,21 @@
-use Rattle.std.proofs.Common.{◌≡◌, ℕ, ◌-◌, length, refl, ap, ◌∙◌, arith, length-set, rules}
-use Rattle.chain_arrays.specs.Operations.{joining}
+use Rattle.std.proofs.Common.{◌-◌, get_or, ap, ◌∙◌, arith, rules}
+use Rattle.chain_arrays.specs.Operations.{joining, worked}
 use Rattle.chain.proofs.Shifting.{turned, turned_none, turned_all, shift_turn}
 use Rattle.chain_arrays.proofs.shift_part.Goals as goal
 
-nothing : (n : ℕ) → 0 ≡ n - n
-nothing n = omega arith
+pub loop-i-init : goal.loop-i-init
+loop-i-init g c = turned_none (joining g.O.Operation.operation) 64 c.args.f.now
 
-pub loop-left-init : goal.loop-left-init
-loop-left-init c =
-    let args = c.args in
-    let f = args.f.now in
-    (omega arith, refl, refl, turned_none (joining args.operation) 64 f ∙ ap (λ k. turned (joining args.operation) 64 k f) (nothing (length f)))
-
-pub loop-left-preserved : goal.loop-left-preserved
-loop-left-preserved c =
-    let turn = c.loop-left in
-    let args = c.args in
-    let f = args.f.now in (
-      omega arith,
-      refl,
-      simp length-set (omega arith),
-      shift_turn (joining args.operation) 64 (length f - turn.left) f (omega arith) turn.invariant.3 c.worked.ensures
-          ∙ ap (λ k. turned (joining args.operation) 64 k f) (omega arith),
-    )
+pub loop-i-preserved : goal.loop-i-preserved
+loop-i-preserved g c =
+    let operation = g.O.Operation.operation in
+    let turn = c.loop-i in
+    let f = c.args.f.now in
+    shift_turn (joining operation) 64 (turn.i - 1) f (omega arith) turn.invariant
+    (c.worked.ensures ∙ ap (λ k. worked operation (get_or turn.f (turn.i - 1) 0) (get_or turn.f k 0)) (omega arith))
+    ∙ ap (λ k. turned (joining operation) 64 k f) (omega arith)
 
 pub returns : goal.returns
-returns c =
-    let turn = c.loop-left in
-    let args = c.args in
-    let f = args.f.now in
-    turn.invariant.3
-    ∙ turned_all (joining args.operation) 64 (length f - turn.left) f (omega arith) (search rules)
+returns g c =
+    let turn = c.loop-i in
+    turn.invariant ∙ turned_all (joining g.O.Operation.operation) 64 (turn.i - 1) c.args.f.now (omega arith) (search rules)

@@ -5,6 +5,6 @@ use Rattle.chain_backward.proofs.inverse_shift.Goals as goal
 
 pub returns : goal.returns
 returns c =
-    let args = c.args in
-    let fits : (i : ℕ) → Fits w64 (get_or args.f i 0) = λ i. search rules in
-    c.from_top.ensures ∙ inverse_shift-done args.f args.k (search rules) (λ i. (fits i).fits)
+    let f = c.args.f in
+    let fits : (i : ℕ) → Fits w64 (get_or f.elements i 0) = λ i. search rules in
+    c.from_top.ensures ∙ inverse_shift-done f.elements f.length (search rules) (λ i. (fits i).fits)

@@ -12,5 +12,5 @@ returns-then-at-eq0 c =
 pub returns : goal.returns
 returns c =
     let args = c.args in
-    difference-found 64 0 args.a c.wrapping_sub_u64.result c.wrapping_sub_u64.type_inv (omega arith) c.wrapping_sub_u64.ensures.value
+    difference-found 64 0 args.a c.wrapping_neg.result c.wrapping_neg.type_inv (omega arith) c.wrapping_neg.ensures
     ∙ sym (odd_sign 64 args.at args.a c.if-at-eq0.false)

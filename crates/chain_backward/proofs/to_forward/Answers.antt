@@ -5,6 +5,6 @@ use Rattle.chain_backward.proofs.to_forward.Goals as goal
 
 pub returns : goal.returns
 returns c =
-    let args = c.args in
-    let fits : (i : ℕ) → Fits w64 (get_or args.f i 0) = λ i. search rules in
-    c.conversion.ensures ∙ to_forward_done args.f args.k (search rules) (λ i. (fits i).fits)
+    let f = c.args.f in
+    let fits : (i : ℕ) → Fits w64 (get_or f.elements i 0) = λ i. search rules in
+    c.conversion.ensures ∙ to_forward_done f.elements f.length (search rules) (λ i. (fits i).fits)

@@ -1,13 +1,19 @@
-use Rattle.std.proofs.Common.{◌*◌, ◌%◌, ◌^◌, get_or, sym, ap, ◌∙◌, zero-add, arith}
+use Rattle.std.proofs.Common.{◌*◌, ◌%◌, ◌^◌, get_or, sym, refl, ap, ◌∙◌, zero-add, arith}
 use Rattle.chain.proofs.CoefficientLaws.{element_turn, element_done}
 use Rattle.chain.specs.Coefficients.{element_from}
 use Rattle.chain_coefficients.proofs.element.Goals as goal
 
 pub loop-j-init : goal.loop-j-init
-loop-j-init c = (omega arith, omega arith, ap (λ z. z % 2 ^ 64) (zero-add (element_from 0 c.args.a.now c.args.m)))
+loop-j-init c = ap (λ z. z % 2 ^ 64) (zero-add (element_from 0 c.args.a.now c.args.m))
 
 pub loop-j-preserved : goal.loop-j-preserved
-loop-j-preserved c = (omega arith, c.wrapping_add_u64-total.type_inv, element_turn (2 ^ 64) c.args.a.now c.loop-j.j c.args.m c.loop-j.total (omega arith) (c.times.ensures ∙ ap (λ z. (get_or c.args.a.now c.loop-j.j 0 * z) % 2 ^ 64) c.onto.ensures) c.wrapping_add_u64-total.ensures.value ∙ c.loop-j.invariant.2)
+loop-j-preserved c =
+    let turn = c.loop-j in
+    let a = c.args.a.now in
+    let term = c.times-total.ensures ∙ ap (λ z. (get_or a turn.j 0 * z) % 2 ^ 64) c.onto.ensures in
+    element_turn (2 ^ 64) a turn.j c.args.m turn.total (omega arith) term refl ∙ turn.invariant
 
 pub returns : goal.returns
-returns c = sym (element_done (2 ^ 64) c.args.a.now c.loop-j.j c.args.m c.loop-j.total c.loop-j.invariant.1 (omega arith)) ∙ c.loop-j.invariant.2
+returns c =
+    let turn = c.loop-j in
+    sym (element_done (2 ^ 64) c.args.a.now turn.j c.args.m turn.total (omega arith) (omega arith)) ∙ turn.invariant

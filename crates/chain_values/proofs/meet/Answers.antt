@@ -1,30 +1,19 @@
-use mathlib.Core.Path.{◌∙◌, ap, refl}
-use Prim.Native.Nat.{◌-◌}
-use native.Mathlib.Omega.{arith}
-use lib.ListN.{length-set}
+use Rattle.std.proofs.Common.{◌-◌, ap, ◌∙◌, arith}
 use Rattle.chain_arrays.specs.Operations.{worked}
 use Rattle.chain_values.proofs.Passing.{meeting, meeting-none, meeting-all, meet_turn}
 use Rattle.chain_values.proofs.meet.Goals as goal
 
-pub loop-left-init : goal.loop-left-init
-loop-left-init c =
-    let args = c.args in
-    (omega arith, refl, meeting-none (worked args.operation) args.part.now)
+pub loop-i-init : goal.loop-i-init
+loop-i-init g c = meeting-none (worked g.O.Operation.operation) c.args.part.now
 
-pub loop-left-preserved : goal.loop-left-preserved
-loop-left-preserved c =
-    let turn = c.loop-left in
-    let args = c.args in
-    let f = args.part.now in
-    let at = turn.left - 2 in (
-      omega arith,
-      simp length-set (omega arith),
-      meet_turn (worked args.operation) at f (omega arith) (turn.invariant.2 ∙ ap (λ k. meeting (worked args.operation) k f) (omega arith)) c.worked.ensures
-          ∙ ap (λ k. meeting (worked args.operation) k f) (omega arith),
-    )
+pub loop-i-preserved : goal.loop-i-preserved
+loop-i-preserved g c =
+    let operation = worked g.O.Operation.operation in
+    let turn = c.loop-i in
+    let f = c.args.part.now in
+    meet_turn operation (turn.i - 1 - 1) f (omega arith) (omega arith) (turn.invariant ∙ ap (λ k. meeting operation k f) (omega arith)) c.worked.ensures
 
 pub returns : goal.returns
-returns c =
-    let turn = c.loop-left in
-    let args = c.args in
-    turn.invariant.2 ∙ meeting-all (worked args.operation) turn.left args.part.now (omega arith)
+returns g c =
+    let turn = c.loop-i in
+    turn.invariant ∙ meeting-all (worked g.O.Operation.operation) turn.i c.args.part.now (omega arith)

@@ -2,13 +2,9 @@
 use mathlib.Core.Path.{ap}
 use Prim.Native.Nat.{◌+◌}
 use native.Mathlib.Omega.{arith}
-use lib.ListN.{length-set}
 use Rattle.plan.specs.Measures.{span_start}
 use Rattle.fold_rows.proofs.Stood.{span_stored}
 use Rattle.fold_rows.proofs.put_span.Goals as goal
-
-pub bounds-plan-at-2 : goal.bounds-plan-at-2
-bounds-plan-at-2 c = simp length-set (omega arith)
 
 pub returns : goal.returns
 returns c =

@@ -1,10 +1,11 @@
 -- `judged` gives the least refusal of 2 to 8, or none.
-use mathlib.Core.Path.{◌∙◌, ap}
+use mathlib.Core.Path.{◌∙◌, ap, refl}
 use mathlib.Core.List.{[]}
 use Prim.Native.Nat.{min}
 use native.Mathlib.Omega.{arith}
-use borrow.Author.Tests.{not-true, not-false}
-use Rattle.formula_scan.proofs.Deciding.{judged_fault, judged-faultless}
+use lib.ListN.{length}
+use Rattle.formula_scan.specs.Fields.{as_parsed}
+use Rattle.formula_scan.proofs.Deciding.{judged_code}
 use Rattle.formula_scan.proofs.Judging.{judged_long, judged-deep, shallow}
 use Rattle.formula_cursor.proofs.Wholes.{whole_lost, whole_got}
 use Rattle.formula_read.proofs.judged.Goals as goal
@@ -12,31 +13,18 @@ use Rattle.formula_read.proofs.judged.Goals as goal
 pub returns-then-text-gt-LONGEST_TEXT : goal.returns-then-text-gt-LONGEST_TEXT
 returns-then-text-gt-LONGEST_TEXT c = judged_long c.args.text.now (omega arith)
 
-pub returns-then-deep-text : goal.returns-then-deep-text
-returns-then-deep-text c =
-    judged-deep c.args.text.now c.deep_place-deep.result (omega arith) c.deep_place-deep.ensures (omega arith)
+pub returns-in-Some : goal.returns-in-Some
+returns-in-Some c = judged-deep c.args.text.now c.in-Some.place (omega arith) c.in-Some.ensures.first c.in-Some.ensures.inside
 
-pub returns-then-not-whole : goal.returns-then-not-whole
-returns-then-not-whole c =
+pub returns-in-Err : goal.returns-in-Err
+returns-in-Err c =
     let text = c.args.text.now in
-    let deep = c.deep_place-deep in
-    let whole = c.scan_whole-whole in
-    whole_lost whole.ensures (omega arith) (shallow text deep.result deep.ensures (omega arith)) (not-true whole.result.ok c.if-not-whole.true)
-
-pub returns-then-code-lt-NO_FAULT : goal.returns-then-code-lt-NO_FAULT
-returns-then-code-lt-NO_FAULT c =
-    let text = c.args.text.now in
-    let deep = c.deep_place-deep in
-    let whole = c.scan_whole-whole in
-    let tree = whole_got whole.ensures (not-false whole.result.ok c.if-not-whole.false) in
-    judged_fault text (omega arith) (shallow text deep.result deep.ensures (omega arith)) [] whole.result [] tree.0 tree.1 c.lesser-code.result
-    (c.lesser-code.ensures ∙ ap (λ k. min whole.result.fault k) c.nodes_fault.ensures) (omega arith)
+    whole_lost c.in-Err.ensures (omega arith) (shallow text (length text) c.in_default.ensures.first (omega arith)) refl
 
 pub returns : goal.returns
 returns c =
     let text = c.args.text.now in
-    let deep = c.deep_place-deep in
-    let whole = c.scan_whole-whole in
-    let tree = whole_got whole.ensures (not-false whole.result.ok c.if-not-whole.false) in
-    judged-faultless text (omega arith) (shallow text deep.result deep.ensures (omega arith)) [] whole.result [] tree.0 tree.1 c.lesser-code.result
-    (c.lesser-code.ensures ∙ ap (λ k. min whole.result.fault k) c.nodes_fault.ensures) (omega arith)
+    let whole = c.in-Ok.whole in
+    let tree = whole_got c.in-Ok.ensures refl in
+    rw c.noted.ensures (judged_code text (omega arith) (shallow text (length text) c.in_default.ensures.first (omega arith)) [] (as_parsed whole) [] tree.0 tree.1 c.min.result
+    (c.min.ensures ∙ ap (λ k. min whole.fault k) c.nodes_fault.ensures))

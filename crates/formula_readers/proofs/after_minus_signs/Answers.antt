@@ -1,17 +1,20 @@
-use mathlib.Core.Path.{◌∙◌, sym}
+use mathlib.Core.Path.{◌≡◌, ◌∙◌, sym, subst}
+use Prim.Native.Nat.{◌+◌}
 use native.Mathlib.Omega.{arith}
-use Rattle.formula_scan.proofs.Steps.{inside}
-use Rattle.formula_scan.proofs.Readings.{minus_starts, minus_goes_on, minus-ends}
+use Rattle.formula_scan.proofs.Steps.{rest_byte}
+use Rattle.formula_scan.proofs.Readings.{MinusSoFar, minus_starts, minus_goes_on}
 use Rattle.formula_readers.proofs.after_minus_signs.Goals as goal
 
-pub loop-i-init : goal.loop-i-init
-loop-i-init c = minus_starts c.args.text.now c.args.at (omega arith)
+pub loop-passed-init : goal.loop-passed-init
+loop-passed-init c =
+    let text = c.args.text.now in
+    let same : c.args.at ≡ c.args.at + 0 = omega arith in
+    subst (λ i. MinusSoFar text c.args.at i) same (minus_starts text c.args.at c.requires)
 
-pub loop-i-smaller : goal.loop-i-smaller
-loop-i-smaller c = omega (arith, inside c.args.text.now c.loop-i.i (omega (arith, c.byte_at.ensures)))
-
-pub loop-i-preserved : goal.loop-i-preserved
-loop-i-preserved c = minus_goes_on c.args.text.now c.args.at c.loop-i.i c.loop-i.invariant (sym c.byte_at.ensures ∙ c.loop-i-test.true)
-
-pub returns : goal.returns
-returns c = minus-ends c.args.text.now c.args.at c.loop-i.i c.loop-i.invariant (λ e. c.loop-i-test.false (c.byte_at.ensures ∙ e))
+pub loop-passed-preserved : goal.loop-passed-preserved
+loop-passed-preserved c =
+    let text = c.args.text.now in
+    let place = c.args.at + c.loop-passed.passed in
+    let next : place + 1 ≡ c.args.at + (c.loop-passed.passed + 1) = omega arith in
+    subst (λ i. MinusSoFar text c.args.at i) next
+    (minus_goes_on text c.args.at place c.loop-passed.invariant (sym (rest_byte text c.args.at c.loop-passed.passed place (omega arith)) ∙ c.if-byte-ne45.false))

@@ -1,44 +1,50 @@
--- `fill_eras` refuses, or fills as many points as room and budget allow and answers the crossings over them.
-use mathlib.Core.Path.{sym, ap, ◌∙◌}
-use native.Mathlib.Omega.{arith}
-use mir.Syntax.{w64}
-use mir.ValLaws.{to_z-of_z}
-use Rattle.plan.specs.Eras.{eras_over}
-use Rattle.plan.proofs.Accepting.{accepted, fill_done, points-whole}
-use Rattle.plan.proofs.EraLaws.{eras_accepted, eras_refused, eras_done}
+-- `fill_eras` refuses, or fills as many points as room and budget allow and answers the crossings over them, by the plan among the words that are lent.
+use Rattle.std.proofs.Common.{◌++◌, drop, sym, ap, ◌∙◌}
+use Rattle.std.proofs.lemmas.Result.{err_from_is_err_and}
+use Rattle.plan.specs.declared.Refusal.TheVariants.{TooShort}
+use Rattle.plan.specs.Measures.{plan_length}
+use Rattle.plan.proofs.Accepting.{accepted, fill_done}
+use Rattle.plan.proofs.Counting.{eras_counted}
+use Rattle.plan.proofs.EraLaws.{eras_accepted, eras_short, eras_refuses, eras_done, lent_fill_eras}
 use Rattle.plan_eras.proofs.fill_eras.Goals as goal
 
-pub returns-then-number-ne0 : goal.returns-then-number-ne0
-returns-then-number-ne0 c =
+pub returns-in_default : goal.returns-in_default
+returns-in_default c =
     let args = c.args in
-    let told = eras_refused args.plan.now args.table.now args.budget c.eras_refusal-number.ensures c.if-number-ne0.true in
-    record { value = told.0; table_after = told.1.0; plan_after = told.1.1 }
+    let told = eras_refuses args.plan.now args.table.now args.budget TooShort (eras_short args.plan.now c.in_default.ensures.cases) in
+    record { value = told.0; table_after = told.1; plan_after = told.2 }
 
-pub plan_cost-point_cost-requires : goal.plan_cost-point_cost-requires
-plan_cost-point_cost-requires c =
-    let plan = c.args.plan.now in
-    let fine = accepted plan (eras_accepted plan (omega (arith, c.eras_refusal-number.ensures))).0 in
-    record { plan_length_in_bounds = fine.0; plan_value = fine.1 }
+pub returns-in_err-eras_refusal : goal.returns-in_err-eras_refusal
+returns-in_err-eras_refusal c =
+    let args = c.args in
+    let whole = c.in-Some.ensures.cases in
+    let refused = err_from_is_err_and c.from_residual.result c.from_residual.ensures.1 in
+    let told = eras_refuses c.in-Some.words.now args.table.now args.budget _ c.in_err-eras_refusal.ensures in
+    let alike = lent_fill_eras 64 args.plan.now args.table.now args.budget whole.enough whole.same in
+    record {
+      value = rw (refused.1, refused.2) told.0 ∙ alike.0;
+      table_after = told.1 ∙ alike.1;
+      plan_after = ap (λ q. q ++ drop plan_length args.plan.now) told.2 ∙ alike.2;
+    }
 
-pub count_table-sum-requires : goal.count_table-sum-requires
-count_table-sum-requires c =
-    let plan = c.args.plan.now in
-    let fine = accepted plan (eras_accepted plan (omega (arith, c.eras_refusal-number.ensures))).0 in
-    record { plan_length_in_bounds = fine.0; plan_value = fine.1 }
+pub fill_sound-requires : goal.fill_sound-requires
+fill_sound-requires c = (accepted c.in-Some.words.now (eras_accepted c.in-Some.words.now (sym c.in_ok-eras_refusal.ensures)).0).1
 
 pub returns : goal.returns
 returns c =
     let args = c.args in
-    let plan = args.plan.now in
-    let table = args.table.now in
-    let points = c.lesser-points in
-    let counted = c.count_table-sum in
-    let good = sym c.eras_refusal-number.ensures ∙ c.if-number-ne0.false in
+    let words = c.in-Some.words.now in
+    let whole = c.in-Some.ensures.cases in
+    let good = sym c.in_ok-eras_refusal.ensures in
+    let filled = c.fill_sound.ensures in
+    let counted = c.fill_sound.result in
     let done =
-    eras_done plan table args.budget good
-    (fill_done plan table args.budget (eras_accepted plan good).0 c.plan_cost-point_cost.ensures.value points.ensures counted.ensures.table_after
-    counted.ensures.plan_after)
-    (to_z-of_z w64 counted.result (record { sfits = counted.type_inv })
-    ∙ counted.ensures.value
-    ∙ ap (λ n. eras_over 64 n plan) (points-whole table points.result _ points.ensures)) in
-    record { value = done.0; table_after = done.1.0; plan_after = done.1.1 }
+    eras_done words args.table.now args.budget good
+    (fill_done words args.table.now args.budget (eras_accepted words good).0 filled.points filled.spent filled.table_after filled.plan_after)
+    (filled.sum ∙ sym (eras_counted 64 counted.points words)) in
+    let alike = lent_fill_eras 64 args.plan.now args.table.now args.budget whole.enough whole.same in
+    record {
+      value = done.0 ∙ alike.0;
+      table_after = done.1 ∙ alike.1;
+      plan_after = ap (λ q. q ++ drop plan_length args.plan.now) done.2 ∙ alike.2;
+    }

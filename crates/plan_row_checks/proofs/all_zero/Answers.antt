@@ -1,30 +1,18 @@
-use mathlib.Core.Path.{refl, sym, ap, ◌∙◌}
-use native.Mathlib.Omega.{arith}
-use native.Mathlib.Numerals.{add-one}
-use lib.ListN.{get_or, drop_of_length-le}
-use borrow.Author.Tests.{eq-eqb, ne_eqb}
+-- `all_zero` tests each word.
+use Rattle.std.proofs.Common.{◌≡◌, ℕ, List, [], ◌∷◌, refl, ap, ◌∙◌, rules, tests}
+use Rattle.std.specs.Prelude.{◌&&◌, eqb}
+use Rattle.std.specs.List.{list_all}
+use Rattle.std.proofs.lemmas.Iterator.{YieldsList-from_slice}
+use Rattle.std.proofs.lemmas.Iterator.Search.{all_from_yields_List}
 use Rattle.plan.specs.Row.{all_zero}
-use Rattle.plan.proofs.SoundLaws.{all-zero-next}
 use Rattle.plan_row_checks.proofs.all_zero.Goals as goal
 
-pub loop-i-init : goal.loop-i-init
-loop-i-init c = (omega arith, refl)
-
-pub returns-then-words-i-ne0 : goal.returns-then-words-i-ne0
-returns-then-words-i-ne0 c =
-    let words = c.args.words.now in
-    let turn = c.loop-i in
-    sym (turn.invariant.1 ∙ all-zero-next words turn.i (omega arith) ∙ rw (ne_eqb (get_or words turn.i 0) 0 c.if-words-i-ne0.true))
-
-pub loop-i-preserved : goal.loop-i-preserved
-loop-i-preserved c =
-    let words = c.args.words.now in
-    let turn = c.loop-i in
-    (omega arith, turn.invariant.1 ∙ all-zero-next words turn.i (omega arith) ∙ rw (eq-eqb (get_or words turn.i 0) 0 c.if-words-i-ne0.false, add-one turn.i))
+each_zero : (words : List ℕ) → list_all (λ word. eqb word 0) words ≡ all_zero words
+unfolding all_zero
+each_zero [] = refl
+each_zero (word ∷ words) = ap (λ b. eqb word 0 && b) (each_zero words)
 
 pub returns : goal.returns
-unfolding all_zero
 returns c =
     let words = c.args.words.now in
-    let turn = c.loop-i in
-    sym (turn.invariant.1 ∙ ap all_zero (drop_of_length-le words {i = turn.i} (omega arith)))
+    all_from_yields_List (λ word. eqb word 0) _ _ _ c.all.ensures.ran (YieldsList-from_slice words cc) (λ x b q k. search (rules, tests)) ∙ each_zero words

@@ -1,69 +1,114 @@
 -- `row_reason` goes by the kind of row r: what it says of its operands' rows is `RowExplained`.
-use mathlib.Core.Path.{sym, ap, ap₂, ◌∙◌}
-use native.Mathlib.Omega.{arith}
-use lib.ListN.{get_or}
+use Rattle.std.proofs.Common.{◌≡◌, ◌≤◌, rules, arith, sym, ap, ap₂, ◌∙◌}
+use Rattle.plan.specs.Row.{kind, word_b}
 use Rattle.plan.proofs.SoundLaws.{sound-count}
 use Rattle.reason.proofs.Numbers.{sum_number, product_number, minus_number, power_number, raise_number}
 use Rattle.reason.proofs.SoundRows.{row-explained}
 use Rattle.reason_call.proofs.row_reason.Goals as goal
 
-pub row-words-requires : goal.row-words-requires
-row-words-requires c =
-    record { plan_length_in_bounds = c.requires.plan_length_in_bounds; r_lt_most_rows = omega (arith, sound-count c.args.plan.now c.requires.plan_value) }
+pub row-words-requires-clause-r_lt_most_rows : goal.row-words-requires-clause-r_lt_most_rows
+row-words-requires-clause-r_lt_most_rows c = omega (arith, sound-count c.args.plan.now c.requires.plan_value)
 
-pub returns-then-kind-lt-SUM : goal.returns-then-kind-lt-SUM
-returns-then-kind-lt-SUM c =
+pub operand-requires-clause-r_bound : goal.operand-requires-clause-r_bound
+operand-requires-clause-r_bound c =
     let asked = c.requires in
     let facts = row-explained c.args.plan.now asked.plan_length_in_bounds asked.plan_value c.args.r asked.r_bound c.row-words.ensures.result_value in
+    let is : 3 ≤ kind c.row-words.result.now = search rules in
+    facts.left is
+
+pub operand-requires-in-Ok-Sum-clause-r_bound : goal.operand-requires-in-Ok-Sum-clause-r_bound
+operand-requires-in-Ok-Sum-clause-r_bound c =
+    let asked = c.requires in
+    let facts = row-explained c.args.plan.now asked.plan_length_in_bounds asked.plan_value c.args.r asked.r_bound c.row-words.ensures.result_value in
+    let is : (3 ≤ kind c.row-words.result.now) × (kind c.row-words.result.now ≤ 4) = search rules in
+    facts.right is.0 (λ e. omega arith) (λ e. omega arith)
+
+pub operand-requires-in-Ok-Product-clause-r_bound : goal.operand-requires-in-Ok-Product-clause-r_bound
+operand-requires-in-Ok-Product-clause-r_bound c =
+    let asked = c.requires in
+    let facts = row-explained c.args.plan.now asked.plan_length_in_bounds asked.plan_value c.args.r asked.r_bound c.row-words.ensures.result_value in
+    let is : kind c.row-words.result.now ≡ 5 = search rules in
+    facts.left (omega arith)
+
+pub operand-requires-in-Ok-Product-2-clause-r_bound : goal.operand-requires-in-Ok-Product-2-clause-r_bound
+operand-requires-in-Ok-Product-2-clause-r_bound c =
+    let asked = c.requires in
+    let facts = row-explained c.args.plan.now asked.plan_length_in_bounds asked.plan_value c.args.r asked.r_bound c.row-words.ensures.result_value in
+    let is : kind c.row-words.result.now ≡ 5 = search rules in
+    facts.right (omega arith) (λ e. omega arith) (λ e. omega arith)
+
+pub operand-requires-in-Ok-Minus-clause-r_bound : goal.operand-requires-in-Ok-Minus-clause-r_bound
+operand-requires-in-Ok-Minus-clause-r_bound c =
+    let asked = c.requires in
+    let facts = row-explained c.args.plan.now asked.plan_length_in_bounds asked.plan_value c.args.r asked.r_bound c.row-words.ensures.result_value in
+    let is : kind c.row-words.result.now ≡ 6 = search rules in
+    facts.left (omega arith)
+
+pub operand-requires-in-Ok-LiteralPower-clause-r_bound : goal.operand-requires-in-Ok-LiteralPower-clause-r_bound
+operand-requires-in-Ok-LiteralPower-clause-r_bound c =
+    let asked = c.requires in
+    let facts = row-explained c.args.plan.now asked.plan_length_in_bounds asked.plan_value c.args.r asked.r_bound c.row-words.ensures.result_value in
+    let is : kind c.row-words.result.now ≡ 7 = search rules in
+    facts.left (omega arith)
+
+pub power_reason-requires-clause-n_lt_most_rows : goal.power_reason-requires-clause-n_lt_most_rows
+power_reason-requires-clause-n_lt_most_rows c =
+    let asked = c.requires in
+    let facts = row-explained c.args.plan.now asked.plan_length_in_bounds asked.plan_value c.args.r asked.r_bound c.row-words.ensures.result_value in
+    facts.exponent
+
+pub operand-requires-in-Ok-Raise-clause-r_bound : goal.operand-requires-in-Ok-Raise-clause-r_bound
+operand-requires-in-Ok-Raise-clause-r_bound c =
+    let asked = c.requires in
+    let facts = row-explained c.args.plan.now asked.plan_length_in_bounds asked.plan_value c.args.r asked.r_bound c.row-words.ensures.result_value in
+    let is : kind c.row-words.result.now ≡ 8 = search rules in
+    facts.right (omega arith) (λ e. omega arith) (λ e. omega arith)
+
+pub returns-in-Ok-Constant : goal.returns-in-Ok-Constant
+returns-in-Ok-Constant c =
+    let asked = c.requires in
+    let facts = row-explained c.args.plan.now asked.plan_length_in_bounds asked.plan_value c.args.r asked.r_bound c.row-words.ensures.result_value in
+    let is : kind c.row-words.result.now ≤ 2 = search rules in
     sym (facts.none (omega arith))
 
-pub operand-left-requires : goal.operand-left-requires
-operand-left-requires c =
+pub unreachable-requires : goal.unreachable-requires
+unreachable-requires c =
     let asked = c.requires in
     let facts = row-explained c.args.plan.now asked.plan_length_in_bounds asked.plan_value c.args.r asked.r_bound c.row-words.ensures.result_value in
-    record { plan_length_in_bounds = asked.plan_length_in_bounds; plan_value = asked.plan_value; r_bound = facts.left (omega arith) }
+    let past : 9 ≤ kind c.row-words.result.now = search rules in
+    absurd (omega (arith, facts.known))
 
-pub returns-then-kind-eq-MINUS : goal.returns-then-kind-eq-MINUS
-returns-then-kind-eq-MINUS c =
+pub returns-in-Ok-Sum : goal.returns-in-Ok-Sum
+returns-in-Ok-Sum c =
     let asked = c.requires in
     let facts = row-explained c.args.plan.now asked.plan_length_in_bounds asked.plan_value c.args.r asked.r_bound c.row-words.ensures.result_value in
-    c.minus_reason.ensures ∙ ap minus_number c.operand-left.ensures.value ∙ sym (facts.minus c.if-kind-eq-MINUS.true)
+    let is : (3 ≤ kind c.row-words.result.now) × (kind c.row-words.result.now ≤ 4) = search rules in
+    c.sum_reason.ensures ∙ ap₂ sum_number c.operand.ensures.value c.operand-in-Ok-Sum.ensures.value ∙ sym (facts.sum is.0 is.1)
 
-pub power_reason-requires : goal.power_reason-requires
-power_reason-requires c = let asked = c.requires in
-    let facts = row-explained c.args.plan.now asked.plan_length_in_bounds asked.plan_value c.args.r asked.r_bound c.row-words.ensures.result_value in record { length_bound = c.operand-left.ensures.length_bound; n_lt_most_rows = facts.exponent }
-
-pub returns-then-kind-eq-LITERAL_POWER : goal.returns-then-kind-eq-LITERAL_POWER
-returns-then-kind-eq-LITERAL_POWER c =
+pub returns-in-Ok-Product : goal.returns-in-Ok-Product
+returns-in-Ok-Product c =
     let asked = c.requires in
     let facts = row-explained c.args.plan.now asked.plan_length_in_bounds asked.plan_value c.args.r asked.r_bound c.row-words.ensures.result_value in
-    c.power_reason.ensures ∙ ap (λ a. power_number a (get_or c.row-words.result.now 2 0)) c.operand-left.ensures.value
-    ∙ sym (facts.power c.if-kind-eq-LITERAL_POWER.true)
+    let is : kind c.row-words.result.now ≡ 5 = search rules in
+    c.product_reason.ensures ∙ ap₂ product_number c.operand-in-Ok-Product.ensures.value c.operand-in-Ok-Product-2.ensures.value ∙ sym (facts.product is)
 
-pub operand-right-requires : goal.operand-right-requires
-operand-right-requires c =
+pub returns-in-Ok-Minus : goal.returns-in-Ok-Minus
+returns-in-Ok-Minus c =
     let asked = c.requires in
     let facts = row-explained c.args.plan.now asked.plan_length_in_bounds asked.plan_value c.args.r asked.r_bound c.row-words.ensures.result_value in
-    record { plan_length_in_bounds = asked.plan_length_in_bounds; plan_value = asked.plan_value; r_bound = facts.right (omega arith) c.if-kind-eq-MINUS.false c.if-kind-eq-LITERAL_POWER.false }
+    let is : kind c.row-words.result.now ≡ 6 = search rules in
+    c.minus_reason.ensures ∙ ap minus_number c.operand-in-Ok-Minus.ensures.value ∙ sym (facts.minus is)
 
-pub product_reason-requires : goal.product_reason-requires
-product_reason-requires c = record { length_bound = c.operand-left.ensures.length_bound; length_bound_2 = c.operand-right.ensures.length_bound }
-
-pub returns-then-kind-eq-PRODUCT : goal.returns-then-kind-eq-PRODUCT
-returns-then-kind-eq-PRODUCT c =
+pub returns-in-Ok-LiteralPower : goal.returns-in-Ok-LiteralPower
+returns-in-Ok-LiteralPower c =
     let asked = c.requires in
     let facts = row-explained c.args.plan.now asked.plan_length_in_bounds asked.plan_value c.args.r asked.r_bound c.row-words.ensures.result_value in
-    c.product_reason.ensures ∙ ap₂ product_number c.operand-left.ensures.value c.operand-right.ensures.value ∙ sym (facts.product c.if-kind-eq-PRODUCT.true)
+    let is : kind c.row-words.result.now ≡ 7 = search rules in
+    c.power_reason.ensures ∙ ap (λ a. power_number a (word_b c.row-words.result.now)) c.operand-in-Ok-LiteralPower.ensures.value ∙ sym (facts.power is)
 
-pub returns-then-kind-eq-RAISE : goal.returns-then-kind-eq-RAISE
-returns-then-kind-eq-RAISE c =
+pub returns-in-Ok-Raise : goal.returns-in-Ok-Raise
+returns-in-Ok-Raise c =
     let asked = c.requires in
     let facts = row-explained c.args.plan.now asked.plan_length_in_bounds asked.plan_value c.args.r asked.r_bound c.row-words.ensures.result_value in
-    c.raise_reason.ensures ∙ ap raise_number c.operand-right.ensures.value ∙ sym (facts.raise c.if-kind-eq-RAISE.true)
-
-pub returns : goal.returns
-returns c =
-    let asked = c.requires in
-    let facts = row-explained c.args.plan.now asked.plan_length_in_bounds asked.plan_value c.args.r asked.r_bound c.row-words.ensures.result_value in
-    c.sum_reason.ensures ∙ ap₂ sum_number c.operand-left.ensures.value c.operand-right.ensures.value
-    ∙ sym (facts.sum (omega arith) (omega (arith, facts.known)))
+    let is : kind c.row-words.result.now ≡ 8 = search rules in
+    c.raise_reason.ensures ∙ ap raise_number c.operand-in-Ok-Raise.ensures.value ∙ sym (facts.raise is)

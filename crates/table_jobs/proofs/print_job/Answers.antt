@@ -1,56 +1,14 @@
--- `print_job` goes by the line's judgement, then by what compiling answers, and then prints the plan.
-use native.Mathlib.Omega.{arith}
-use borrow.Author.Tests.{not-true, not-false}
-use Rattle.table_progress.proofs.Jobs.{line_refused, formula_refused, formula_sound, formula_texts, formula_printed}
+-- `print_job` goes by the line's judgement.
+use mathlib.Core.Path.{refl}
+use Rattle.std.proofs.Common.{Err}
+use Rattle.table.specs.Judged.{as_job_line}
+use Rattle.table_progress.proofs.Jobs.{line_refused}
 use Rattle.table_jobs.proofs.print_job.Goals as goal
 
-pub write_no_line-requires : goal.write_no_line-requires
-write_no_line-requires c = omega arith
-
-pub shape_of-out-then-not-job : goal.shape_of-out-then-not-job
-shape_of-out-then-not-job c = omega arith
-
-pub returns-then-not-job : goal.returns-then-not-job
-returns-then-not-job c =
+pub returns-in-Err : goal.returns-in-Err
+returns-in-Err c =
     let start = c.args in
-    line_refused start.tool start.n start.job start.formula.now start.plan.now start.table.now start.out.now
-    (not-true _ c.if-not-job.true) c.write_no_line.ensures
+    rw c.in-Err.is (line_refused start.tool start.n (as_job_line (Err c.in-Err.bad)) start.formula.now start.plan.now start.table.now start.out.now refl c.print_bad_line.ensures)
 
-pub write_no_line-requires-then-answer-ne0 : goal.write_no_line-requires-then-answer-ne0
-write_no_line-requires-then-answer-ne0 c = omega arith
-
-pub shape_of-plan-then-answer-ne0 : goal.shape_of-plan-then-answer-ne0
-shape_of-plan-then-answer-ne0 c = omega arith
-
-pub shape_of-out-then-answer-ne0 : goal.shape_of-out-then-answer-ne0
-shape_of-out-then-answer-ne0 c = omega arith
-
-pub returns-then-answer-ne0 : goal.returns-then-answer-ne0
-returns-then-answer-ne0 c =
-    let start = c.args in
-    formula_refused start.tool start.n start.job start.formula.now start.plan.now start.table.now start.out.now
-    (not-false _ c.if-not-job.false) c.requires.plan_len c.compile-answer.ensures
-    c.if-answer-ne0.true c.write_no_line-then-answer-ne0.ensures
-
-pub print_plan-requires : goal.print_plan-requires
-print_plan-requires c = let start = c.args in record {
-  plan_value = formula_sound start.tool start.n start.job start.formula.now start.plan.now start.table.now start.out.now
-      c.requires.plan_len c.compile-answer.ensures c.if-answer-ne0.false;
-  texts_within = formula_texts start.tool start.n start.job start.formula.now start.plan.now start.table.now start.out.now
-      c.requires.plan_len c.compile-answer.ensures c.if-answer-ne0.false;
-  table_len_bound = omega arith;
-  in_bounds = omega arith;
-}
-
-pub shape_of-plan : goal.shape_of-plan
-shape_of-plan c = omega arith
-
-pub shape_of-out : goal.shape_of-out
-shape_of-out c = omega arith
-
-pub returns : goal.returns
-returns c =
-    let printed = c.print_plan.ensures in
-    let start = c.args in
-    formula_printed start.tool start.n start.job start.formula.now start.plan.now start.table.now start.out.now
-    c.requires.plan_len c.compile-answer.ensures c.if-answer-ne0.false (not-false _ c.if-not-job.false) c.requires.count_in_bounds printed
+pub returns-in-Ok : goal.returns-in-Ok
+returns-in-Ok c = rw c.in-Ok.is c.print_taken.ensures

@@ -6,7 +6,7 @@ use Rattle.table_line_checks.proofs.judge_job.Goals as goal
 pub returns-then-is_misshapen : goal.returns-then-is_misshapen
 returns-then-is_misshapen c =
     let args = c.args in
-    c.refused.ensures ∙ job_misshapen args.line.now args.defaults.now (sym c.is_misshapen.ensures ∙ c.if-is_misshapen.true)
+    job_misshapen args.line.now args.defaults.now (sym c.is_misshapen.ensures ∙ c.if-is_misshapen.true)
 
 pub returns : goal.returns
 returns c =

@@ -1,4 +1,5 @@
 -- `end_line` goes by the line that was awaited.
+use mathlib.Core.Path.{◌∙◌}
 use Rattle.table_progress.proofs.LinesEnded.{ended_header, ended-defaults, ended_job, ended-nothing}
 use Rattle.table_lines.proofs.end_line.Goals as goal
 
@@ -19,9 +20,9 @@ returns-in-Defaults c =
 pub returns-in-Job : goal.returns-in-Job
 returns-in-Job c =
     let args = c.args in
-    let done = c.end_job-wrote.ensures in
+    let done = c.end_job.ensures in
     let so = ended_job args.tool args.progress args.line.now args.defaults.now args.plan.now args.table.now args.out.now c.in-Job.is (done.wrote, (done.plan_after, done.table_after)) in
-    record { progress_value = so.0; wrote = so.1.0; defaults_after = so.1.1.0; plan_after = so.1.1.1.0; table_after = so.1.1.1.1 }
+    record { progress_value = done.progress_value ∙ so.0; wrote = so.1.0; defaults_after = so.1.1.0; plan_after = so.1.1.1.0; table_after = so.1.1.1.1 }
 
 pub returns-in-Nothing : goal.returns-in-Nothing
 returns-in-Nothing c =

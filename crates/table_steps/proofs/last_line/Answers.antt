@@ -7,9 +7,9 @@ use Rattle.table_progress.specs.Runs.{lent}
 use Rattle.table_progress.proofs.StepsTaken.{last_none, last_fits, last_some}
 use Rattle.table_steps.proofs.last_line.Goals as goal
 
-pub returns-then-held-eq0 : goal.returns-then-held-eq0
-returns-then-held-eq0 c = let args = c.args in
-    let b = lent args.line.now args.defaults.now args.plan.now args.table.now args.out.now in record { out_after = last_none args.tool args.progress b c.if-held-eq0.true; wrote_in_bounds = omega arith }
+pub returns-then-progress-eq0 : goal.returns-then-progress-eq0
+returns-then-progress-eq0 c = let args = c.args in
+    let b = lent args.line.now args.defaults.now args.plan.now args.table.now args.out.now in record { out_after = last_none args.tool args.progress b c.if-progress-eq0.true; wrote_in_bounds = omega arith }
 
 pub returns : goal.returns
 returns c =

@@ -1,10 +1,7 @@
-use Rattle.std.proofs.Common.{◌%◌, ◌^◌, sym, ap, ◌∙◌, arith}
-use Rattle.word.proofs.Squaring.{turn_even, turn_odd, turns_done}
+use Rattle.std.proofs.Common.{◌^◌, ◌∙◌, arith}
+use Rattle.word.proofs.Squaring.{turn_even, turn_odd}
 use Rattle.word.proofs.power.Goals as goal
 use Rattle.word.proofs.power.Goals.{then-left-eq1, else-left-eq1}
-
-pub loop-left-init : goal.loop-left-init
-loop-left-init c = (omega arith, ap (λ z. z % 2 ^ 64) (omega arith))
 
 pub loop-left-preserved : goal.loop-left-preserved
 loop-left-preserved c = elim c.if-left-eq1.branch [
@@ -13,6 +10,3 @@ loop-left-preserved c = elim c.if-left-eq1.branch [
   | else-left-eq1 w ↦
       (omega arith, rw w.result-is (turn_even (2 ^ 64) _ _ _ w.if-left-eq1.false c.times-square.ensures ∙ c.loop-left.invariant.1))
 ]
-
-pub returns : goal.returns
-returns c = sym (turns_done (2 ^ 64) _ _ c.loop-left.invariant.0 (omega arith)) ∙ c.loop-left.invariant.1

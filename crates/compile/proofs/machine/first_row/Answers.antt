@@ -9,11 +9,11 @@ overflow_sub-r c = omega (arith, c.requires.ends.1.2.behind, some_rows c.require
 pub loop-r-init : goal.loop-r-init
 loop-r-init c = (omega (arith, c.requires.end_le_most_rows, c.requires.ends.1.2.behind, some_rows c.requires.ends.1.1), λ first operand. reached_root c.args.plan.now first (c.args.end) operand)
 
-pub word-requires : goal.word-requires
-word-requires c = record { plan_length_in_bounds = (c.requires.plan_length_in_bounds); r_lt_most_rows = c.loop-r.invariant.0; i_lt_row_length = omega arith }
+pub word-requires-clause-r_lt_most_rows : goal.word-requires-clause-r_lt_most_rows
+word-requires-clause-r_lt_most_rows c = c.loop-r.invariant.0
 
-pub word-r-requires : goal.word-r-requires
-word-r-requires c = record { plan_length_in_bounds = (c.requires.plan_length_in_bounds); r_lt_most_rows = c.loop-r.invariant.0; i_lt_row_length = omega arith }
+pub word-r-requires-clause-r_lt_most_rows : goal.word-r-requires-clause-r_lt_most_rows
+word-r-requires-clause-r_lt_most_rows c = c.loop-r.invariant.0
 
 pub loop-r-smaller : goal.loop-r-smaller
 loop-r-smaller c = (reached_next c.args.plan.now c.requires.ends.0 (c.loop-r.r) (c.loop-r.invariant.1 c.requires.ends.0 c.requires.ends.1) (c.word.ensures) (c.word-r.ensures) (c.loop-r-test.true)).0

@@ -1,167 +1,109 @@
 -- `fold_node` folds one node: a number, x, or an operator on the last operands.
-use native.Mathlib.Omega.{arith}
+use Rattle.std.proofs.Common.{ap, arith, rules}
+use Rattle.formula.specs.Words.{kind_number}
+use Rattle.compile.proofs.NodeKinds.{same-kind}
 use Rattle.compile.proofs.Nodes.{few-rows, top_asked, minus_asked, power_asked, below_asked, both_asked}
 use Rattle.compile.proofs.Nodes.{number_pushed, variable_pushed, minus-folded, power-folded, both-folded}
-use borrow.Author.Rules.{rules}
+use Rattle.formula.specs.declared.NodeKind.TheVariants.{Number, Variable, Minus, LiteralPower}
 use Rattle.compile.proofs.machine.fold_node.Goals as goal
 
-pub overflow_add-result : goal.overflow_add-result
-overflow_add-result c =
-    let p = c.args.plan.now in
-    let end = c.args.end in
-    let start = c.args.start in
-    let step = c.args.step in
-    let long = c.requires.plan_length_in_bounds in
-    let comp = c.requires.at_node.4 in
-    let work = c.requires.at_node.5 in
-    omega (arith, few-rows start step p end long comp work)
-
-pub overflow_add-result-then-kind-eq-VARIABLE : goal.overflow_add-result-then-kind-eq-VARIABLE
-overflow_add-result-then-kind-eq-VARIABLE c =
-    let p = c.args.plan.now in
-    let end = c.args.end in
-    let start = c.args.start in
-    let step = c.args.step in
-    let long = c.requires.plan_length_in_bounds in
-    let comp = c.requires.at_node.4 in
-    let work = c.requires.at_node.5 in
-    omega (arith, few-rows start step p end long comp work)
-
 pub put_pair-requires : goal.put_pair-requires
-put_pair-requires c = let p = c.args.plan.now in
-    let end = c.args.end in
-    let start = c.args.start in
-    let step = c.args.step in
-    let long = c.requires.plan_length_in_bounds in
-    let comp = c.requires.at_node.4 in
-    let work = c.requires.at_node.5 in record { plan_length_in_bounds = long; r_lt_most_rows = few-rows start step p end long comp work }
+put_pair-requires c = few-rows _ _ _ _ (omega arith) c.requires.4 c.requires.5
 
-pub returns-then-kind-eq-NUMBER : goal.returns-then-kind-eq-NUMBER
-returns-then-kind-eq-NUMBER c =
-    let p = c.args.plan.now in
-    let end = c.args.end in
-    let start = c.args.start in
-    let step = c.args.step in
-    let long = c.requires.plan_length_in_bounds in
-    λ t words first_byte end_byte comp work. number_pushed start step p end long comp work c.if-kind-eq-NUMBER.true c.put_pair.ensures
+pub overflow_add-result : goal.overflow_add-result
+overflow_add-result c = omega (arith, few-rows _ _ _ _ (omega arith) c.requires.4 c.requires.5)
 
-pub put_pair-requires-then-kind-eq-VARIABLE : goal.put_pair-requires-then-kind-eq-VARIABLE
-put_pair-requires-then-kind-eq-VARIABLE c =
-    let p = c.args.plan.now in
-    let end = c.args.end in
-    let start = c.args.start in
-    let step = c.args.step in
-    let long = c.requires.plan_length_in_bounds in
-    let comp = c.requires.at_node.4 in
-    let work = c.requires.at_node.5 in
-    record { plan_length_in_bounds = long; r_lt_most_rows = few-rows start step p end long comp work }
+pub put_pair-requires-in-Variable : goal.put_pair-requires-in-Variable
+put_pair-requires-in-Variable c = few-rows _ _ _ _ (omega arith) c.requires.4 c.requires.5
 
-pub returns-then-kind-eq-VARIABLE : goal.returns-then-kind-eq-VARIABLE
-returns-then-kind-eq-VARIABLE c =
-    let p = c.args.plan.now in
-    let end = c.args.end in
-    let start = c.args.start in
-    let step = c.args.step in
-    let long = c.requires.plan_length_in_bounds in
-    λ t words first_byte end_byte comp work. variable_pushed start step p end long comp work c.if-kind-eq-VARIABLE.true (search rules) (search rules)
-    c.put_pair-then-kind-eq-VARIABLE.ensures
+pub overflow_add-result-in-Variable : goal.overflow_add-result-in-Variable
+overflow_add-result-in-Variable c = omega (arith, few-rows _ _ _ _ (omega arith) c.requires.4 c.requires.5)
 
-pub first_row-top-requires : goal.first_row-top-requires
-first_row-top-requires c =
-    let p = c.args.plan.now in
-    let end = c.args.end in
-    let start = c.args.start in
-    let step = c.args.step in
-    let long = c.requires.plan_length_in_bounds in
-    let comp = c.requires.at_node.4 in
-    let work = c.requires.at_node.5 in record {
-      plan_length_in_bounds = long;
-      end_le_most_rows = omega (arith, few-rows start step p end long comp work);
-      ends = top_asked start step p end long comp work c.if-kind-eq-NUMBER.false c.if-kind-eq-VARIABLE.false;
-    }
+pub first_row-first-requires-clause-end_le_most_rows : goal.first_row-first-requires-clause-end_le_most_rows
+first_row-first-requires-clause-end_le_most_rows c = omega (arith, few-rows _ _ _ _ (omega arith) c.requires.4 c.requires.5)
 
-pub fold_minus-requires : goal.fold_minus-requires
-fold_minus-requires c = let p = c.args.plan.now in
-    let end = c.args.end in
-    let start = c.args.start in
-    let step = c.args.step in
-    let long = c.requires.plan_length_in_bounds in
-    let comp = c.requires.at_node.4 in
-    let work = c.requires.at_node.5 in record {
-      plan_length_in_bounds = long;
-      end_lt_most_rows = few-rows start step p end long comp work;
-      one = minus_asked start step p end long comp work c.first_row-top.ensures
-          c.if-kind-eq-MINUS.true;
-    }
+pub first_row-first-requires-clause-ends : goal.first_row-first-requires-clause-ends
+first_row-first-requires-clause-ends c =
+    let minus = ap kind_number c.in-Minus.is in
+    top_asked _ _ _ _ (omega arith) c.requires.4 c.requires.5 (λ e. omega (arith, minus, e)) (λ e. omega (arith, minus, e))
 
-pub returns-then-kind-eq-MINUS : goal.returns-then-kind-eq-MINUS
-returns-then-kind-eq-MINUS c =
-    let p = c.args.plan.now in
-    let end = c.args.end in
-    let start = c.args.start in
-    let step = c.args.step in
-    let long = c.requires.plan_length_in_bounds in
-    λ t words first_byte end_byte comp work. minus-folded start step p end long comp work c.first_row-top.ensures
-    c.if-kind-eq-MINUS.true c.fold_minus.ensures
+pub fold_minus-requires-clause-end_lt_most_rows : goal.fold_minus-requires-clause-end_lt_most_rows
+fold_minus-requires-clause-end_lt_most_rows c = few-rows _ _ _ _ (omega arith) c.requires.4 c.requires.5
 
-pub fold_power-requires : goal.fold_power-requires
-fold_power-requires c = let p = c.args.plan.now in
-    let end = c.args.end in
-    let start = c.args.start in
-    let step = c.args.step in
-    let long = c.requires.plan_length_in_bounds in
-    let comp = c.requires.at_node.4 in
-    let work = c.requires.at_node.5 in
-    let power = power_asked start step p end long comp work c.first_row-top.ensures c.if-kind-eq-LITERAL_POWER.true in record { plan_length_in_bounds = long; end_lt_most_rows = few-rows start step p end long comp work; n_bound = power.1; one = power.0 }
+pub fold_minus-requires-clause-one : goal.fold_minus-requires-clause-one
+fold_minus-requires-clause-one c = minus_asked _ _ _ _ (omega arith) c.requires.4 c.requires.5 c.first_row-first.ensures (ap kind_number c.in-Minus.is)
 
-pub returns-then-kind-eq-LITERAL_POWER : goal.returns-then-kind-eq-LITERAL_POWER
-returns-then-kind-eq-LITERAL_POWER c =
-    let p = c.args.plan.now in
-    let end = c.args.end in
-    let start = c.args.start in
-    let step = c.args.step in
-    let long = c.requires.plan_length_in_bounds in
-    λ t words first_byte end_byte comp work. power-folded start step p end long comp work c.first_row-top.ensures
-    c.if-kind-eq-LITERAL_POWER.true c.fold_power.ensures
+pub first_row-base-requires-clause-end_le_most_rows : goal.first_row-base-requires-clause-end_le_most_rows
+first_row-base-requires-clause-end_le_most_rows c = omega (arith, few-rows _ _ _ _ (omega arith) c.requires.4 c.requires.5)
 
-pub first_row-below-requires : goal.first_row-below-requires
-first_row-below-requires c =
-    let p = c.args.plan.now in
-    let end = c.args.end in
-    let start = c.args.start in
-    let step = c.args.step in
-    let long = c.requires.plan_length_in_bounds in
-    let comp = c.requires.at_node.4 in
-    let work = c.requires.at_node.5 in
-    let below = below_asked start step p end long comp work c.first_row-top.ensures
-    c.if-kind-eq-NUMBER.false c.if-kind-eq-VARIABLE.false c.if-kind-eq-MINUS.false
-    c.if-kind-eq-LITERAL_POWER.false in record { plan_length_in_bounds = long; end_le_most_rows = below.0; ends = below.1 }
+pub first_row-base-requires-clause-ends : goal.first_row-base-requires-clause-ends
+first_row-base-requires-clause-ends c =
+    let power = ap kind_number c.in-LiteralPower.is in
+    top_asked _ _ _ _ (omega arith) c.requires.4 c.requires.5 (λ e. omega (arith, power, e)) (λ e. omega (arith, power, e))
 
-pub fold_both-requires : goal.fold_both-requires
-fold_both-requires c = let p = c.args.plan.now in
-    let end = c.args.end in
-    let start = c.args.start in
-    let step = c.args.step in
-    let long = c.requires.plan_length_in_bounds in
-    let comp = c.requires.at_node.4 in
-    let work = c.requires.at_node.5 in record {
-      plan_length_in_bounds = long;
-      end_lt_most_rows = few-rows start step p end long comp work;
-      two = both_asked start step p end long comp work
-          c.first_row-top.ensures c.if-kind-eq-NUMBER.false
-          c.if-kind-eq-VARIABLE.false c.if-kind-eq-MINUS.false
-          c.if-kind-eq-LITERAL_POWER.false c.first_row-below.ensures;
-    }
+pub fold_power-requires-clause-end_lt_most_rows : goal.fold_power-requires-clause-end_lt_most_rows
+fold_power-requires-clause-end_lt_most_rows c = few-rows _ _ _ _ (omega arith) c.requires.4 c.requires.5
 
-pub returns : goal.returns
-returns c =
-    let p = c.args.plan.now in
-    let end = c.args.end in
-    let start = c.args.start in
-    let step = c.args.step in
-    let long = c.requires.plan_length_in_bounds in
-    λ t words first_byte end_byte comp work. both-folded start step p end long comp work c.first_row-top.ensures
-    c.if-kind-eq-NUMBER.false
-    c.if-kind-eq-VARIABLE.false
-    c.if-kind-eq-MINUS.false c.if-kind-eq-LITERAL_POWER.false
-    c.first_row-below.ensures c.fold_both.ensures
+pub fold_power-requires-clause-n_bound : goal.fold_power-requires-clause-n_bound
+fold_power-requires-clause-n_bound c = (power_asked _ _ _ _ (omega arith) c.requires.4 c.requires.5 c.first_row-base.ensures (ap kind_number c.in-LiteralPower.is)).1
+
+pub fold_power-requires-clause-one : goal.fold_power-requires-clause-one
+fold_power-requires-clause-one c = (power_asked _ _ _ _ (omega arith) c.requires.4 c.requires.5 c.first_row-base.ensures (ap kind_number c.in-LiteralPower.is)).0
+
+pub first_row-middle-requires-clause-end_le_most_rows : goal.first_row-middle-requires-clause-end_le_most_rows
+first_row-middle-requires-clause-end_le_most_rows c = omega (arith, few-rows _ _ _ _ (omega arith) c.requires.4 c.requires.5)
+
+pub first_row-middle-requires-clause-ends : goal.first_row-middle-requires-clause-ends
+first_row-middle-requires-clause-ends c =
+    top_asked _ _ _ _ (omega arith) c.requires.4 c.requires.5 (λ e. c.in_default.not-Number (same-kind c.args.kind Number e))
+    (λ e. c.in_default.not-Variable (same-kind c.args.kind Variable e))
+
+pub first_row-left-requires-clause-end_le_most_rows : goal.first_row-left-requires-clause-end_le_most_rows
+first_row-left-requires-clause-end_le_most_rows c =
+    (below_asked _ _ _ _ (omega arith) c.requires.4 c.requires.5 c.first_row-middle.ensures
+    (λ e. c.in_default.not-Number (same-kind c.args.kind Number e)) (λ e. c.in_default.not-Variable (same-kind c.args.kind Variable e))
+    (λ e. c.in_default.not-Minus (same-kind c.args.kind Minus e))
+    (λ e. c.in_default.not-LiteralPower (same-kind c.args.kind LiteralPower e))).0
+
+pub first_row-left-requires-clause-ends : goal.first_row-left-requires-clause-ends
+first_row-left-requires-clause-ends c =
+    (below_asked _ _ _ _ (omega arith) c.requires.4 c.requires.5 c.first_row-middle.ensures
+    (λ e. c.in_default.not-Number (same-kind c.args.kind Number e)) (λ e. c.in_default.not-Variable (same-kind c.args.kind Variable e))
+    (λ e. c.in_default.not-Minus (same-kind c.args.kind Minus e))
+    (λ e. c.in_default.not-LiteralPower (same-kind c.args.kind LiteralPower e))).1
+
+pub fold_both-requires-clause-end_lt_most_rows : goal.fold_both-requires-clause-end_lt_most_rows
+fold_both-requires-clause-end_lt_most_rows c = few-rows _ _ _ _ (omega arith) c.requires.4 c.requires.5
+
+pub fold_both-requires-clause-two : goal.fold_both-requires-clause-two
+fold_both-requires-clause-two c =
+    both_asked _ _ _ _ (omega arith) c.requires.4 c.requires.5 c.first_row-middle.ensures
+    (λ e. c.in_default.not-Number (same-kind c.args.kind Number e)) (λ e. c.in_default.not-Variable (same-kind c.args.kind Variable e))
+    (λ e. c.in_default.not-Minus (same-kind c.args.kind Minus e))
+    (λ e. c.in_default.not-LiteralPower (same-kind c.args.kind LiteralPower e)) c.first_row-left.ensures
+
+pub returns-in-Number : goal.returns-in-Number
+returns-in-Number c =
+    λ t words first_byte end_byte comp work. number_pushed _ _ _ _ (omega arith) comp work (ap kind_number c.in-Number.is) c.put_pair.ensures
+
+pub returns-in-Variable : goal.returns-in-Variable
+returns-in-Variable c =
+    λ t words first_byte end_byte comp work. variable_pushed _ _ _ _ (omega arith) comp work (ap kind_number c.in-Variable.is) (search rules) (search rules)
+    c.put_pair-in-Variable.ensures
+
+pub returns-in-Minus : goal.returns-in-Minus
+returns-in-Minus c =
+    λ t words first_byte end_byte comp work. minus-folded _ _ _ _ (omega arith) comp work c.first_row-first.ensures
+    (ap kind_number c.in-Minus.is) c.fold_minus.ensures
+
+pub returns-in-LiteralPower : goal.returns-in-LiteralPower
+returns-in-LiteralPower c =
+    λ t words first_byte end_byte comp work. power-folded _ _ _ _ (omega arith) comp work c.first_row-base.ensures
+    (ap kind_number c.in-LiteralPower.is) c.fold_power.ensures
+
+pub returns-in_default : goal.returns-in_default
+returns-in_default c =
+    λ t words first_byte end_byte comp work. both-folded _ _ _ _ (omega arith) comp work c.first_row-middle.ensures
+    (λ e. c.in_default.not-Number (same-kind c.args.kind Number e)) (λ e. c.in_default.not-Variable (same-kind c.args.kind Variable e))
+    (λ e. c.in_default.not-Minus (same-kind c.args.kind Minus e))
+    (λ e. c.in_default.not-LiteralPower (same-kind c.args.kind LiteralPower e)) c.first_row-left.ensures c.fold_both.ensures

@@ -1,27 +1,27 @@
 -- `fold_place` folds the node at a place of the plan and puts its span on the root row of its tree.
-use native.Mathlib.Omega.{arith}
+use Rattle.std.proofs.Common.{◌≡◌, get_or, arith, rules}
+use Rattle.formula.specs.Words.{kind_number}
+use Rattle.compile.proofs.NodeKinds.{next_kind}
 use Rattle.compile.proofs.Nodes.{root_row, spanned}
 use Rattle.compile.proofs.machine.fold_place.Goals as goal
 
 pub overflow_sub-root : goal.overflow_sub-root
 overflow_sub-root c =
-    let args = c.args in
-    let pre = c.requires in
-    let (t, words, comp, work) = pre.at_place in
-    let grown = c.fold_node-behind.ensures t words _ _ comp work in
-    omega (arith, (root_row args.start args.step args.plan.now args.end pre.plan_length_in_bounds grown).0)
+    let (t, words, comp, work) = c.requires.at_place in
+    let told : kind_number c.unwrap-kind.result ≡ get_or c.args.plan.now c.args.at 0 = search rules in
+    let grown = c.fold_node-behind.ensures t words _ _ comp (next_kind told work) in
+    omega (arith, (root_row _ _ _ _ (omega arith) grown).0)
 
 pub put_span-requires : goal.put_span-requires
-put_span-requires c = let args = c.args in
-    let pre = c.requires in
-    let (t, words, comp, work) = pre.at_place in
-    let grown = c.fold_node-behind.ensures t words _ _ comp work in
-    let rows = root_row args.start args.step args.plan.now args.end pre.plan_length_in_bounds grown in record { plan_length_in_bounds = omega (arith, pre.plan_length_in_bounds, c.fold_node-behind.auto); r_lt_most_rows = omega (arith, rows.0, rows.1, grown.few) }
+put_span-requires c =
+    let (t, words, comp, work) = c.requires.at_place in
+    let told : kind_number c.unwrap-kind.result ≡ get_or c.args.plan.now c.args.at 0 = search rules in
+    let grown = c.fold_node-behind.ensures t words _ _ comp (next_kind told work) in
+    let rows = root_row _ _ _ _ (omega arith) grown in
+    omega (arith, rows.0, rows.1, grown.few)
 
 pub returns : goal.returns
 returns c =
-    let args = c.args in
-    let pre = c.requires in
+    let told : kind_number c.unwrap-kind.result ≡ get_or c.args.plan.now c.args.at 0 = search rules in
     λ t words comp work.
-    spanned args.start args.step args.plan.now args.end pre.plan_length_in_bounds
-    (c.fold_node-behind.ensures t words _ _ comp work) comp c.put_span.ensures
+    spanned _ _ _ _ (omega arith) (c.fold_node-behind.ensures t words _ _ comp (next_kind told work)) comp c.put_span.ensures

@@ -1,9 +1,9 @@
--- `expand` ends: each token begins after the one before it. Invariant: the lent bytes keep their number.
-use Rattle.std.proofs.Common.{◌≡◌, ◌-◌, length}
+-- `expand` ends: each token is read off what is left. Invariant: the end reached is within what is lent.
+use Rattle.std.proofs.Common.{◌≤◌, length}
 use Rattle.edges_text.proofs.notation.expand.Given as goal
 
-abbrev pub invariant-loop-at : goal.invariant-loop-at
-invariant-loop-at l = length l.out ≡ length l.initial.out
+abbrev pub invariant-loop-first : goal.invariant-loop-first
+invariant-loop-first l = l.end ≤ length l.out
 
-abbrev pub decreases-loop-at : goal.decreases-loop-at
-decreases-loop-at l = length l.notation - l.at
+abbrev pub decreases-loop-first : goal.decreases-loop-first
+decreases-loop-first l = length l.rest

@@ -1,13 +1,8 @@
 -- `move_down` moves row after row. Invariant: the rows passed are moved.
 use mathlib.Core.Path.{◌≡◌}
-use Prim.Native.Nat.{◌-◌, ◌≤◌}
-use lib.ListN.{length}
+use Prim.Native.Nat.{◌-◌}
 use Rattle.fold_rows.specs.Standing.{moved_down}
 use Rattle.fold_rows.proofs.moved_rows.move_down.Given as goal
 
 abbrev pub invariant-loop-r : goal.invariant-loop-r
-invariant-loop-r l =
-    (l.first ≤ l.r) × (l.r ≤ l.end) × (length l.plan ≡ length l.initial.plan) × (l.plan ≡ moved_down l.first (l.r - l.first) l.initial.plan)
-
-abbrev pub decreases-loop-r : goal.decreases-loop-r
-decreases-loop-r l = l.end - l.r
+invariant-loop-r l = l.plan ≡ moved_down l.first (l.r - l.first) l.initial.plan

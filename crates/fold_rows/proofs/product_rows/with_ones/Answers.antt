@@ -1,21 +1,9 @@
-use native.Mathlib.Omega.{arith}
+-- `with_ones` writes 1 past the length.
 use borrow.Author.Rules.{rules}
-use Rattle.fold_rows.proofs.Ones.{ones_none, ones_next, ones_all}
+use Rattle.fold_rows.proofs.Ones.{ones_put}
 use Rattle.fold_rows.proofs.product_rows.with_ones.Goals as goal
-
-pub loop-j-init : goal.loop-j-init
-loop-j-init c = (omega arith, omega arith, ones_none c.args.last c.args.elements)
-
-pub loop-j-preserved : goal.loop-j-preserved
-loop-j-preserved c =
-    let last = c.args.last in
-    let elements = c.args.elements in
-    let turn = c.loop-j in
-    (omega arith, omega arith, ones_next last turn.j elements (omega arith) (search rules) turn.invariant.2)
 
 pub returns : goal.returns
 returns c =
-    let last = c.args.last in
-    let elements = c.args.elements in
-    let turn = c.loop-j in
-    ones_all last turn.j elements (omega arith) (omega arith) (search rules) turn.invariant.2
+    let f = c.args.f in
+    ones_put f.length f.elements (search rules) (search rules) (c.fill.ensures.after (λ y same. same))

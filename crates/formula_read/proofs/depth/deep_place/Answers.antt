@@ -1,21 +1,31 @@
+use mathlib.Core.Path.{◌≡◌, ap}
+use mathlib.Core.Bool.{Bool, true, false, cond}
+use Prim.Native.Nat.{ℕ, ◌+◌}
 use native.Mathlib.Omega.{arith}
-use Rattle.formula_scan.proofs.BracketCount.{deep_starts, deep-found, deep_goes_on, deep_nowhere}
+use mir.Val.{bool_byte}
+use lib.Dec.{eqb}
+use lib.ListN.{get_or}
+use Rattle.formula_scan.proofs.BracketCount.{deep_starts, deep-found, deep_goes_on}
 use Rattle.formula_read.proofs.depth.deep_place.Goals as goal
 
-pub loop-i-init : goal.loop-i-init
-loop-i-init c = deep_starts c.args.text.now
+-- One more where the test holds.
+one_if : (test : Bool) (n k : ℕ) → k ≡ bool_byte test → n + k ≡ cond test (n + 1) n
+one_if true n k e = ap (λ z. n + z) e
+one_if false n k e = omega (arith, e)
 
-pub counted-opened-requires : goal.counted-opened-requires
-counted-opened-requires c = omega (arith, c.loop-i.invariant.few, c.well_formed.0.1)
+pub loop-place-init : goal.loop-place-init
+loop-place-init c = deep_starts c.args.text.now
 
-pub counted-closed-requires : goal.counted-closed-requires
-counted-closed-requires c = omega (arith, c.loop-i.invariant.fewer, c.well_formed.0.1)
+pub returns-then-closed-opened-clause-first : goal.returns-then-closed-opened-clause-first
+returns-then-closed-opened-clause-first c =
+    let so = c.loop-place in
+    let byte = get_or c.args.text.now so.place 0 in
+    deep-found c.args.text.now so.place so.opened so.closed _ _ so.invariant c.loop-place-test.true
+    (one_if (eqb byte 40) so.opened c.from-opened.result c.from-opened.ensures) (one_if (eqb byte 41) so.closed c.from-closed.result c.from-closed.ensures) (omega arith)
 
-pub returns-then-closed-opened : goal.returns-then-closed-opened
-returns-then-closed-opened c = deep-found c.args.text.now c.loop-i.i c.loop-i.opened c.loop-i.closed _ _ c.loop-i.invariant (omega arith) c.counted-opened.ensures c.counted-closed.ensures (omega arith)
-
-pub loop-i-preserved : goal.loop-i-preserved
-loop-i-preserved c = deep_goes_on c.args.text.now c.loop-i.i c.loop-i.opened c.loop-i.closed _ _ c.loop-i.invariant (omega arith) c.counted-opened.ensures c.counted-closed.ensures (omega arith)
-
-pub returns : goal.returns
-returns c = deep_nowhere c.args.text.now c.loop-i.i c.loop-i.opened c.loop-i.closed c.loop-i.invariant (omega arith)
+pub loop-place-preserved : goal.loop-place-preserved
+loop-place-preserved c =
+    let so = c.loop-place in
+    let byte = get_or c.args.text.now so.place 0 in
+    deep_goes_on c.args.text.now so.place so.opened so.closed _ _ so.invariant c.loop-place-test.true
+    (one_if (eqb byte 40) so.opened c.from-opened.result c.from-opened.ensures) (one_if (eqb byte 41) so.closed c.from-closed.result c.from-closed.ensures) (omega arith)

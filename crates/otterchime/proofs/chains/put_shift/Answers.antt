@@ -1,28 +1,25 @@
--- `put_shift` stores the crossing's word last, and lays the chain before it.
-use mathlib.Core.Path.{ap, sym, ◌∙◌}
-use mathlib.Core.List.{[], ◌∷◌, ◌++◌}
-use lib.ListN.{length}
-use mir.Syntax.{w64}
+-- `put_shift` stores the crossing's word last, and lays the chain before it; a refusal is answered with the constant 0.
+use Rattle.std.proofs.Common.{◌≡◌, ◌∙◌, ap, rules, ℤ, pos, negsuc, [], ◌∷◌, drop, slice_set, refl, w64, of_z, SFits}
 use mir.ValLaws.{to_z-of_z}
-use borrow.Author.Rules.{rules}
 use Rattle.word.specs.Signed.{word_of}
-use Rattle.chain_arrays.proofs.Laying.{length-laid}
-use Rattle.otterchime.proofs.Behind.{laid-before, length_before}
+use Rattle.chain.specs.Chain.{row}
+use Rattle.otterchime.proofs.Behind.{last_stored}
 use Rattle.otterchime.proofs.chains.put_shift.Goals as goal
 
-pub shape_of-answer : goal.shape_of-answer
-shape_of-answer c =
-    let r = c.args.r in
-    let shifted = r.number ∷ r.place ∷ r.length ∷ r.elements in
-    let word = c.signed_word.result in
-    ap length (laid-before 20 c.args.answer.now shifted word c.requires c.put.ensures)
-    ∙ length_before 20 shifted word (length-laid r.number r.place r.length r.elements (search rules))
-    ∙ sym c.requires
+cast_word : (z : ℤ) → of_z w64 z ≡ word_of 64 z
+cast_word (pos n) = refl
+cast_word (negsuc n) = refl
 
-pub returns : goal.returns
-returns c =
-    let r = c.args.r in
-    let shifted = r.number ∷ r.place ∷ r.length ∷ r.elements in
-    let word = c.signed_word in
-    laid-before 20 c.args.answer.now shifted word.result c.requires c.put.ensures
-    ∙ ap (λ x. shifted ++ x ∷ []) (word.ensures ∙ ap (word_of 64) (to_z-of_z w64 r.crossing (search rules)))
+pub returns-in-Ok : goal.returns-in-Ok
+returns-in-Ok c =
+    let answer = c.args.answer.now in
+    let shifted = c.in-Ok.shifted in
+    let word = c.cast_unsigned.result in
+    let fits : SFits w64 shifted.crossing = search rules in
+    let crosses : word ≡ word_of 64 shifted.crossing = c.cast_unsigned.ensures ∙ ap (of_z w64) (to_z-of_z w64 shifted.crossing fits) ∙ cast_word shifted.crossing in
+    let last : drop 20 (slice_set answer 20 word) ≡ word ∷ [] = last_stored 20 answer word c.told-answer in
+    rw (c.in-Ok.is, c.lay.ensures, last, crosses)
+
+pub returns-in-Err : goal.returns-in-Err
+unfolding row
+returns-in-Err c = search rules

@@ -1,8 +1,8 @@
 -- `facts` reads the table of row kinds.
-use mathlib.Core.Path.{refl}
+use Rattle.std.proofs.Common.{rules}
 use Rattle.plan.specs.Row.{kind_facts}
 use Rattle.plan_rows.proofs.kinds.facts.Goals as goal
 
 pub returns : goal.returns
 unfolding kind_facts
-returns c = refl
+returns c = search rules

@@ -1,25 +1,14 @@
-use mathlib.Core.Path.{refl, ap, ◌∙◌}
-use Prim.Native.Nat.{suc}
-use native.Mathlib.Omega.{arith}
-use lib.Seq.{take_all}
-use Rattle.formula.specs.Refusals.{count}
-use Rattle.table.specs.Parts.{tab}
-use Rattle.table.proofs.PartsFound.{count-here, count_other}
+-- `count_fields` counts the parts that tabs cut the line into.
+use Rattle.std.proofs.Common.{rules, tests, ◌∙◌}
+use Rattle.std.proofs.lemmas.Iterator.Consumers.{count_from_yields_List}
+use Rattle.std.proofs.lemmas.Iterator.Splits.{YieldsList-from_slice_split}
+use lib.Dec.{eqb}
+use Rattle.table_fields.proofs.Finding.{fields_counted}
 use Rattle.table_fields.proofs.fields.count_fields.Goals as goal
-use Rattle.table_fields.proofs.fields.count_fields.Goals.{then-line-i-eq9, else-line-i-eq9}
-
-pub loop-i-init : goal.loop-i-init
-unfolding count
-loop-i-init c = (omega arith, omega arith, refl)
-
-pub loop-i-preserved : goal.loop-i-preserved
-loop-i-preserved c =
-    let line = c.args.line.now in
-    let turn = c.loop-i in
-    elim c.if-line-i-eq9.branch [
-      | then-line-i-eq9 w ↦ (omega arith, omega arith, omega (arith, count-here tab line turn.i (omega arith) w.if-line-i-eq9.true))
-      | else-line-i-eq9 w ↦ (omega arith, omega arith, omega (arith, count_other tab line turn.i (omega arith) w.if-line-i-eq9.false))
-    ]
 
 pub returns : goal.returns
-returns c = c.loop-i.invariant.2 ∙ ap (λ s. suc (count tab s)) (take_all c.loop-i.i c.args.line.now (omega arith))
+returns c =
+    let cut = c.split.ensures in
+    count_from_yields_List _ _ c.count.ensures.ran
+    (YieldsList-from_slice_split _ (λ b. eqb b 9) c.args.line.now cut.rest cut.done cut.closure (λ x b q k. search (rules, tests)))
+    ∙ fields_counted c.args.line.now

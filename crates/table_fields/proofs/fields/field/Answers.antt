@@ -1,20 +1,15 @@
--- `field` lends what stands behind n - 1 tabs, up to the next.
-use mathlib.Core.Path.{ap, ◌∙◌}
-use native.Mathlib.Omega.{arith}
-use Rattle.table.specs.Parts.{tab, before}
-use Rattle.table.proofs.PartsFound.{found_inside, found_part}
+-- `field` takes one of the parts that tabs cut the line into.
+use Rattle.std.proofs.Common.{rules, tests, refl}
+use Rattle.std.proofs.lemmas.Iterator.Consumers.{nth_from_yields_List}
+use Rattle.std.proofs.lemmas.Iterator.Splits.{YieldsList-from_slice_split}
+use lib.Dec.{eqb}
+use Rattle.table_fields.proofs.Finding.{field_found}
 use Rattle.table_fields.proofs.fields.field.Goals as goal
-
-pub slice_bounds-result-end : goal.slice_bounds-result-end
-slice_bounds-result-end c =
-    let from = c.field_start-from in
-    omega (arith, c.find-to.ensures, found_inside tab c.args.line.now from.result from.ensures.upper_bound)
-
-pub find-to-requires : goal.find-to-requires
-find-to-requires c = omega (arith, c.field_start-from.ensures.upper_bound)
 
 pub returns : goal.returns
 returns c =
-    let from = c.field_start-from in
-    found_part tab c.args.line.now from.result from.ensures.upper_bound c.find-to.result c.find-to.ensures
-    ∙ ap (λ s. before tab s) from.ensures.line_value
+    let cut = c.split.ensures in
+    rw c.unwrap_or.ensures
+    (field_found c.args.line.now c.args.n _ _ refl
+    (nth_from_yields_List _ _ _ c.nth.ensures.ran
+    (YieldsList-from_slice_split _ (λ b. eqb b 9) c.args.line.now cut.rest cut.done cut.closure (λ x b q k. search (rules, tests)))))

@@ -1,2 +1,0 @@
--- What the tests of two factors say of their lengths.
-pub mod SumLengths

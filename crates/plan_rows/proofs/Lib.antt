@@ -1,0 +1,2 @@
+-- Laws of the kinds' numbers, for the crates above.
+pub mod Numbering

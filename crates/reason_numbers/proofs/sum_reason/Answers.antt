@@ -1,8 +1,0 @@
--- `sum_reason` judges whether 01 folds the row, and else tells why not.
-use mathlib.Core.Path.{ap₂, ◌∙◌}
-use Rattle.reason.proofs.Numbers.{judged, sum_number}
-use Rattle.reason_numbers.proofs.sum_reason.Goals as goal
-
-pub returns : goal.returns
-unfolding sum_number
-returns c = c.judged.ensures ∙ ap₂ judged c.sum_folds.ensures c.joined_reason-other.ensures

@@ -1,2 +1,0 @@
--- Laws for the writers of a row's line.
-pub mod ReasonFields
