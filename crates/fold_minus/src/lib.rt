@@ -2,19 +2,19 @@
 // Sums and differences are in `fold_sums`; which operator a node is, is decided in `compile`.
 #![tactic(auto)]
 
-ghost use Rattle.std.specs.Prelude.{◌<◌, ◌≤◌};
-ghost use Rattle.plan.specs.Measures.{most_rows};
+ghost use Rattle.std.specs.Prelude.{◌<◌, ◌≤◌, length};
+ghost use Rattle.plan.specs.Measures.{plan_length, most_rows};
 ghost use Rattle.fold.specs.Folding.{fold_minus};
 ghost use Rattle.fold_operands.specs.Operands.{One, Folds};
 
 use chain::Chain;
 use fold_operands::{append, chain_in, kind, put_sum};
 use fold_rows::product_rows;
-use plan::PlanWords;
 use plan_rows::kinds::{MINUS, PRODUCT_CHAIN};
 
 // Minus the operand from row first up to row end: "minus S: every element; minus P: f0 only."
-pub fn fold_minus(plan: &mut PlanWords, first: usize, end: usize) -> usize
+pub fn fold_minus(plan: &mut [u64], first: usize, end: usize) -> usize
+    requires plan_length_in_bounds { plan_length ≤ length plan.old }
     requires end_lt_most_rows { end < most_rows }
     requires one { One plan.old first end }
     ensures { Folds (fold_minus 64) plan.old first end result plan.new }

@@ -3,7 +3,7 @@
 #![tactic(auto)]
 
 ghost use Rattle.std.specs.Prelude.{◌≡◌, ◌+◌, ◌-◌, ◌*◌, ◌≤◌, ◌<◌, length, take};
-ghost use Rattle.plan.specs.Measures.{most_rows};
+ghost use Rattle.plan.specs.Measures.{plan_length, most_rows};
 ghost use Rattle.plan.specs.Row.{kind};
 ghost use Rattle.plan.specs.Plan.{row};
 ghost use Rattle.chain.specs.Chain.{words, trimmed};
@@ -16,7 +16,6 @@ use chain::Chain;
 use chain_arrays::{LONGEST, Power, accepted, word_by_word};
 use fold_operands::{append, chain_in, first_element, kind, put_constant, put_sum};
 use fold_rows::product_rows;
-use plan::PlanWords;
 use plan_rows::kinds::{CONSTANT, LITERAL_POWER, PRODUCT_CHAIN, SUM_CHAIN};
 
 // The chain to the n, trimmed.
@@ -30,7 +29,8 @@ fn power_of(f: Chain, n: u64) -> Chain
 }
 
 // Chains and operators to the n: S^n if k*n is at most 16, every element of P, or a row.
-fn fold_high_power(plan: &mut PlanWords, first: usize, end: usize, n: u64) -> usize
+fn fold_high_power(plan: &mut [u64], first: usize, end: usize, n: u64) -> usize
+    requires plan_length_in_bounds { plan_length ≤ length plan.old }
     requires end_lt_most_rows { end < most_rows }
     requires le_n { 2 ≤ n }
     requires n_bound { n ≤ 64 }
@@ -55,7 +55,8 @@ fn fold_high_power(plan: &mut PlanWords, first: usize, end: usize, n: u64) -> us
 }
 
 // The operand from row first up to row end, to the n: "A^0 is 1, A^1 is A".
-pub fn fold_power(plan: &mut PlanWords, first: usize, end: usize, n: u64) -> usize
+pub fn fold_power(plan: &mut [u64], first: usize, end: usize, n: u64) -> usize
+    requires plan_length_in_bounds { plan_length ≤ length plan.old }
     requires end_lt_most_rows { end < most_rows }
     requires n_bound { n ≤ 64 }
     requires one { One plan.old first end }

@@ -2,8 +2,8 @@
 // What is read of two factors is in `fold_factors`. Which node is a product is decided in `compile`; sums and powers are in `fold_sums` and `fold_powers`.
 #![tactic(auto)]
 
-ghost use Rattle.std.specs.Prelude.{◌≡◌, ◌+◌, ◌≤◌, ◌<◌};
-ghost use Rattle.plan.specs.Measures.{most_rows};
+ghost use Rattle.std.specs.Prelude.{◌≡◌, ◌+◌, ◌≤◌, ◌<◌, length};
+ghost use Rattle.plan.specs.Measures.{plan_length, most_rows};
 ghost use Rattle.chain.specs.Chain.{words};
 ghost use Rattle.chain.specs.SumChain.{product};
 ghost use Rattle.chain.specs.ProductChain.{joint_product};
@@ -19,12 +19,13 @@ use chain_arrays::Product;
 use fold_factors::{are_products, are_sums, filled, has_zero};
 use fold_operands::{Pair, append, chain_in, is_constant, put_constant, put_sum};
 use fold_rows::{moved_rows, product_rows};
-use plan::PlanWords;
 use plan_rows::kinds::PRODUCT;
 
-// Kept: the two that follow differ in what they read of a row, in how they multiply and in what they put: no line of their bodies is one line.
+// Kept: the two functions that follow differ in what they read of a row, in how they multiply and in what they put, so that no line serves both.
+
 // The product of the sum chains in rows a and b by document 000's rule, in row r.
-fn put_product_of_sums(plan: &mut PlanWords, r: usize, a: usize, b: usize)
+fn put_product_of_sums(plan: &mut [u64], r: usize, a: usize, b: usize)
+    requires plan_length_in_bounds { plan_length ≤ length plan.old }
     requires r_lt_most_rows { r < most_rows }
     requires a_lt_most_rows { a < most_rows }
     requires b_lt_most_rows { b < most_rows }
@@ -38,7 +39,8 @@ fn put_product_of_sums(plan: &mut PlanWords, r: usize, a: usize, b: usize)
 }
 
 // The product of the product chains in rows a and b, in row r.
-fn put_product_of_products(plan: &mut PlanWords, r: usize, a: usize, b: usize)
+fn put_product_of_products(plan: &mut [u64], r: usize, a: usize, b: usize)
+    requires plan_length_in_bounds { plan_length ≤ length plan.old }
     requires r_lt_most_rows { r < most_rows }
     requires a_lt_most_rows { a < most_rows }
     requires b_lt_most_rows { b < most_rows }
@@ -54,7 +56,8 @@ fn put_product_of_products(plan: &mut PlanWords, r: usize, a: usize, b: usize)
 }
 
 // Constants 1 and 0 first, then sum chains, then product chains; anything else stays a row.
-pub fn fold_product(plan: &mut PlanWords, pair: Pair) -> usize
+pub fn fold_product(plan: &mut [u64], pair: Pair) -> usize
+    requires plan_length_in_bounds { plan_length ≤ length plan.old }
     requires end_lt_most_rows { pair.end < most_rows }
     requires two { Two plan.old pair.left pair.middle pair.end }
     ensures { FoldsBoth (fold_product 64) plan.old pair.left pair.middle pair.end result plan.new }

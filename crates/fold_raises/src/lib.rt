@@ -2,19 +2,19 @@
 // Which node is one of them is decided in `compile`; literal powers are in `fold_powers`.
 #![tactic(auto)]
 
-ghost use Rattle.std.specs.Prelude.{◌≤◌, ◌<◌};
-ghost use Rattle.plan.specs.Measures.{most_rows};
+ghost use Rattle.std.specs.Prelude.{◌≤◌, ◌<◌, length};
+ghost use Rattle.plan.specs.Measures.{plan_length, most_rows};
 ghost use Rattle.fold.specs.Folding.{fold_raise};
 ghost use Rattle.fold_operands.specs.Operands.{Two, FoldsBoth};
 
 use chain_arrays::{Power, word_by_word};
 use fold_operands::{Pair, append, first_element, kind};
 use fold_rows::product_rows;
-use plan::PlanWords;
 use plan_rows::kinds::{CONSTANT, PRODUCT_CHAIN, RAISE};
 
 // The operand before row middle to the one behind it: "C by C worked out; C by S becomes a product chain with elements C^fj."
-pub fn fold_raise(plan: &mut PlanWords, pair: Pair) -> usize
+pub fn fold_raise(plan: &mut [u64], pair: Pair) -> usize
+    requires plan_length_in_bounds { plan_length ≤ length plan.old }
     requires end_lt_most_rows { pair.end < most_rows }
     requires two { Two plan.old pair.left pair.middle pair.end }
     ensures { FoldsBoth (fold_raise 64) plan.old pair.left pair.middle pair.end result plan.new }

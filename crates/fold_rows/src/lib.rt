@@ -13,13 +13,14 @@ ghost use Rattle.formula.specs.Tree.{span};
 ghost use Rattle.fold_rows.specs.Standing.{with_row, with_span};
 
 use chain::Chain;
-use plan::{ELEMENTS_START, PlanWords, ROW_WORDS, SPAN_START};
+use plan::{ELEMENTS_START, ROW_WORDS, SPAN_START};
 use plan_rows::kinds::CONSTANT;
 use plan_rows::row;
 
 // The 17 element words of row r.
-pub fn elements(plan: &PlanWords, r: usize) -> [u64; 17]
-    requires { r < most_rows }
+pub fn elements(plan: &[u64], r: usize) -> [u64; 17]
+    requires plan_length_in_bounds { plan_length ≤ length plan.now }
+    requires r_lt_most_rows { r < most_rows }
     ensures { result ≡ elements (row plan.now r) }
 {
     let words = row(plan, r);
@@ -42,8 +43,9 @@ fn write_row(row: &mut [u64], kind: u64, a: u64, b: u64, elements: [u64; 17])
 }
 
 // The span of row r: first byte and end byte of the text that it came from.
-pub fn put_span(plan: &mut PlanWords, r: usize, first: u64, end: u64)
-    requires { r < most_rows }
+pub fn put_span(plan: &mut [u64], r: usize, first: u64, end: u64)
+    requires plan_length_in_bounds { plan_length ≤ length plan.old }
+    requires r_lt_most_rows { r < most_rows }
     ensures { plan.new ≡ with_row plan.old r (with_span (row plan.old r) (span first end)) }
 {
     let at = plan_rows::start(r) + SPAN_START;
@@ -62,9 +64,10 @@ pub fn write(plan: &mut [u64], r: usize, kind: u64, a: u64, b: u64, elements: [u
 }
 
 // The row of a chain of the given kind; a chain of length 0 is a constant.
-// Kept: `kind` is a number, since a parameter of a call between crates keeps all its values.
-pub fn put_chain(plan: &mut PlanWords, r: usize, kind: u64, f: Chain)
-    requires { r < most_rows }
+// Kept: `kind` is a number, since the contract is of every number, and an enum would ask more of callers.
+pub fn put_chain(plan: &mut [u64], r: usize, kind: u64, f: Chain)
+    requires plan_length_in_bounds { plan_length ≤ length plan.old }
+    requires r_lt_most_rows { r < most_rows }
     ensures { plan.new ≡ with_row plan.old r (cond (eqb f.length 0) 0 kind ∷ f.length ∷ 0 ∷ f.elements ++ 0 ∷ 0 ∷ []) }
 {
     let row_kind = if f.length == 0 { CONSTANT } else { kind };

@@ -6,7 +6,7 @@ ghost use Rattle.plan.specs.Plan.{row};
 ghost use Rattle.fold_rows.specs.Standing.{with_row, lowered, moved_down};
 
 use crate::{elements, put_span, write};
-use plan::{PlanWords, SPAN_START};
+use plan::SPAN_START;
 use plan_rows::kinds::operand_count;
 use plan_rows::word;
 
@@ -17,7 +17,8 @@ fn lowered(word: u64, named: bool) -> u64
     if named { word.saturating_sub(1) } else { word }
 }
 
-fn move_row(plan: &mut PlanWords, r: usize)
+fn move_row(plan: &mut [u64], r: usize)
+    requires plan_length_in_bounds { plan_length ≤ length plan.old }
     requires le_r { 1 ≤ r }
     requires r_lt_most_rows { r < most_rows }
     ensures { plan.new ≡ with_row plan.old (r - 1) (lowered (row plan.old r)) }
@@ -35,7 +36,8 @@ fn move_row(plan: &mut PlanWords, r: usize)
 }
 
 // The rows from first up to end, each moved down by one.
-pub fn move_down(plan: &mut PlanWords, first: usize, end: usize)
+pub fn move_down(plan: &mut [u64], first: usize, end: usize)
+    requires plan_length_in_bounds { plan_length ≤ length plan.old }
     requires le_first { 1 ≤ first }
     requires first_le_end { first ≤ end }
     requires end_le_most_rows { end ≤ most_rows }

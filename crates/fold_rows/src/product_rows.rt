@@ -7,7 +7,6 @@ ghost use Rattle.fold_rows.specs.Standing.{filled_with_ones, placed, no_span};
 
 use crate::put_chain;
 use chain::Chain;
-use plan::PlanWords;
 use plan_rows::kinds::PRODUCT_CHAIN;
 
 // The chain's elements, and 1 past its length.
@@ -21,8 +20,9 @@ pub fn with_ones(f: Chain) -> [u64; 17]
 }
 
 // The row of a product chain of 17 elements, trimmed; with a first element 0 it is the constant 0.
-pub fn put_product(plan: &mut PlanWords, r: usize, elements: [u64; 17])
-    requires { r < most_rows }
+pub fn put_product(plan: &mut [u64], r: usize, elements: [u64; 17])
+    requires plan_length_in_bounds { plan_length ≤ length plan.old }
+    requires r_lt_most_rows { r < most_rows }
     ensures { plan.new ≡ placed plan.old r no_span (trimmed_product elements) }
 {
     if elements[0] == 0 {

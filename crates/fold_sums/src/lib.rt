@@ -1,9 +1,9 @@
-// Sums and differences of operands that stand at the top of a lent plan, as one operator by the kind of its row.
+// Sums and differences of operands that stand at the top of a lent plan, as one operator that is told which of the two it is.
 // Minus is in `fold_minus`; which operator a node is, is decided in `compile`.
 #![tactic(auto)]
 
-ghost use Rattle.std.specs.Prelude.{◌≡◌, ◌&&◌, ◌≤◌, ◌<◌};
-ghost use Rattle.plan.specs.Measures.{most_rows};
+ghost use Rattle.std.specs.Prelude.{◌≡◌, ◌&&◌, ◌≤◌, ◌<◌, length};
+ghost use Rattle.plan.specs.Measures.{plan_length, most_rows};
 ghost use Rattle.chain.specs.Answer.{as_chain_answer, answered};
 ghost use Rattle.plan.specs.Row.{word_a, elements};
 ghost use Rattle.plan.specs.Plan.{row};
@@ -15,7 +15,6 @@ use chain::{Chain, Refusal};
 use fold_minus::fold_minus;
 use fold_operands::{Pair, append, chain_in, is_constant, is_sum, put_sum};
 use fold_rows::moved_rows;
-use plan::PlanWords;
 use plan_rows::kinds::{DIFFERENCE, SUM};
 
 // The operators of this crate.
@@ -38,7 +37,8 @@ impl From<Additive> for u64 {
 }
 
 // Both rows are constants or sum chains.
-fn both_sums(plan: &PlanWords, a: usize, b: usize) -> bool
+fn both_sums(plan: &[u64], a: usize, b: usize) -> bool
+    requires plan_length_in_bounds { plan_length ≤ length plan.now }
     requires a_lt_most_rows { a < most_rows }
     requires b_lt_most_rows { b < most_rows }
     ensures { result ≡ (is_sum_row (row plan.now a) && is_sum_row (row plan.now b)) }
@@ -47,7 +47,8 @@ fn both_sums(plan: &PlanWords, a: usize, b: usize) -> bool
 }
 
 // The chains of two rows, a constant standing as f0: "element by element", "and the same under -".
-fn chain_of_both(plan: &PlanWords, operator: Additive, a: usize, b: usize) -> Result<Chain, Refusal>
+fn chain_of_both(plan: &[u64], operator: Additive, a: usize, b: usize) -> Result<Chain, Refusal>
+    requires plan_length_in_bounds { plan_length ≤ length plan.now }
     requires a_lt_most_rows { a < most_rows }
     requires b_lt_most_rows { b < most_rows }
     ensures { as_chain_answer result ≡ answered (both_outcome 64 (row_kind operator) (elements (row plan.now a)) (word_a (row plan.now a))
@@ -62,7 +63,8 @@ fn chain_of_both(plan: &PlanWords, operator: Additive, a: usize, b: usize) -> Re
 }
 
 // The operand alone, behind the constant 0: "0+A: A", "0-A: as minus A".
-fn fold_alone(plan: &mut PlanWords, operator: Additive, first: usize, end: usize) -> usize
+fn fold_alone(plan: &mut [u64], operator: Additive, first: usize, end: usize) -> usize
+    requires plan_length_in_bounds { plan_length ≤ length plan.old }
     requires end_lt_most_rows { end < most_rows }
     requires one { One plan.old first end }
     ensures { Folds (fold_alone 64 (row_kind operator)) plan.old first end result plan.new }
@@ -75,7 +77,8 @@ fn fold_alone(plan: &mut PlanWords, operator: Additive, first: usize, end: usize
 
 // The operand before row middle plus the one behind it, or less it: "C+S, S+C, S+S, and the same under -: element by
 // element", "A+0, 0+A, A-0: A", "0-A: as minus A".
-pub fn fold_sum(plan: &mut PlanWords, operator: Additive, pair: Pair) -> usize
+pub fn fold_sum(plan: &mut [u64], operator: Additive, pair: Pair) -> usize
+    requires plan_length_in_bounds { plan_length ≤ length plan.old }
     requires end_lt_most_rows { pair.end < most_rows }
     requires two { Two plan.old pair.left pair.middle pair.end }
     ensures { FoldsBoth (fold_sum_or_difference 64 (row_kind operator)) plan.old pair.left pair.middle pair.end result plan.new }

@@ -3,7 +3,7 @@
 #![tactic(auto)]
 
 ghost use Rattle.std.specs.Prelude.{◌≡◌, ◌<◌, ◌≤◌, true, List, ℕ, ℤ, nat_abs, length};
-ghost use Rattle.plan.specs.Measures.{row_length, most_rows, element_count};
+ghost use Rattle.plan.specs.Measures.{plan_length, row_length, most_rows, element_count};
 ghost use Rattle.plan.specs.Row.{kind, word_a, word_b, is_chain};
 ghost use Rattle.plan.specs.Plan.{sound};
 ghost use Rattle.plan.specs.Points.{row_value, root_value, shifted_row, shifted_plan};
@@ -36,8 +36,9 @@ fn row_value(row: &[u64], values: &[u64]) -> u64
 }
 
 // The value of the root. The lent words take the values of the rows.
-pub fn root_value(plan: &PlanWords, values: &mut [u64; MOST_ROWS]) -> u64
-    requires { sound plan.now ≡ true }
+pub fn root_value(plan: &[u64], values: &mut [u64; MOST_ROWS]) -> u64
+    requires plan_length_in_bounds { plan_length ≤ length plan.now }
+    requires plan_value { sound plan.now ≡ true }
     ensures { result ≡ root_value 64 plan.now }
 {
     let count = plan[0] as usize;
@@ -54,7 +55,7 @@ fn shift_row(row: &mut [u64])
     requires row_bound_2 { is_chain (kind row.old) ≡ true → word_a row.old < element_count }
     ensures { row.new ≡ shifted_row 64 row.old }
 {
-    // Kept: (c) in a `match` on the row's `RowKind` the last arm becomes a goal for each kind, under names that may not be cited.
+    // Kept: tried; in a `match` on the row's `RowKind` the last arm becomes a goal for each kind, under names that may not be cited.
     let kind = row[0];
     let end = ELEMENTS_START + (1 + row[1] as usize);
     if kind == SUM_CHAIN {

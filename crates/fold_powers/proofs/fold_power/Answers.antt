@@ -26,4 +26,4 @@ returns-then-n-eq1 c =
     power_one args.plan.now args.first args.end args.n c.kind.ensures c.if-kind-eq-CONSTANT.false c.if-n-eq1.true
 
 pub fold_high_power-requires : goal.fold_high_power-requires
-fold_high_power-requires c = let asked = c.requires in record { end_lt_most_rows = asked.end_lt_most_rows; le_n = omega arith; n_bound = asked.n_bound; one = asked.one; nonzero = omega (arith, c.kind.ensures, c.if-kind-eq-CONSTANT.false) }
+fold_high_power-requires c = let asked = c.requires in record { plan_length_in_bounds = asked.plan_length_in_bounds; end_lt_most_rows = asked.end_lt_most_rows; le_n = omega arith; n_bound = asked.n_bound; one = asked.one; nonzero = omega (arith, c.kind.ensures, c.if-kind-eq-CONSTANT.false) }

@@ -13,7 +13,7 @@ pub overflow_sub-right_root : goal.overflow_sub-right_root
 overflow_sub-right_root c = omega (arith, operands_some c.requires.two.3)
 
 pub move_down-requires : goal.move_down-requires
-move_down-requires c = let roots = operands_some c.requires.two.3 in record { le_first = omega (arith, roots); first_le_end = omega (arith, roots); end_le_most_rows = omega arith }
+move_down-requires c = let roots = operands_some c.requires.two.3 in record { plan_length_in_bounds = c.requires.plan_length_in_bounds; le_first = omega (arith, roots); first_le_end = omega (arith, roots); end_le_most_rows = omega arith }
 
 pub returns-then-is_constant : goal.returns-then-is_constant
 returns-then-is_constant c =
@@ -35,7 +35,7 @@ returns-then-has_zero c =
 pub put_product_of_sums-requires : goal.put_product_of_sums-requires
 put_product_of_sums-requires c = let roots = operands_some c.requires.two.3 in
     let args = c.args in
-    let said = sums_say args.plan.now (args.pair.middle - 1) (args.pair.end - 1) c.are_sums.ensures c.if-are_sums.true in record { r_lt_most_rows = omega (arith, roots); a_lt_most_rows = omega (arith, roots); b_lt_most_rows = omega (arith, roots); b_bound = said.2 }
+    let said = sums_say args.plan.now (args.pair.middle - 1) (args.pair.end - 1) c.are_sums.ensures c.if-are_sums.true in record { plan_length_in_bounds = c.requires.plan_length_in_bounds; r_lt_most_rows = omega (arith, roots); a_lt_most_rows = omega (arith, roots); b_lt_most_rows = omega (arith, roots); b_bound = said.2 }
 
 pub returns-then-are_sums : goal.returns-then-are_sums
 returns-then-are_sums c =
@@ -48,7 +48,7 @@ returns-then-are_sums c =
 
 pub put_product_of_products-requires : goal.put_product_of_products-requires
 put_product_of_products-requires c = let roots = operands_some c.requires.two.3 in
-    let short = products_short c.requires.two.3 c.are_products.ensures c.if-are_products.true in record { r_lt_most_rows = omega (arith, roots); a_lt_most_rows = omega (arith, roots); b_lt_most_rows = omega (arith, roots); a_bound = short.0; b_bound = short.1 }
+    let short = products_short c.requires.two.3 c.are_products.ensures c.if-are_products.true in record { plan_length_in_bounds = c.requires.plan_length_in_bounds; r_lt_most_rows = omega (arith, roots); a_lt_most_rows = omega (arith, roots); b_lt_most_rows = omega (arith, roots); a_bound = short.0; b_bound = short.1 }
 
 pub returns-then-are_products : goal.returns-then-are_products
 returns-then-are_products c =

@@ -38,7 +38,7 @@ returns-then-is_constant c =
     c.is_constant.ensures c.if-is_constant.true
 
 pub move_down-requires : goal.move_down-requires
-move_down-requires c = let o = c.requires.two.3 in record { le_first = omega (arith, operand_some o.first); first_le_end = omega (arith, operand_some o.second); end_le_most_rows = omega arith }
+move_down-requires c = let o = c.requires.two.3 in record { plan_length_in_bounds = c.requires.plan_length_in_bounds; le_first = omega (arith, operand_some o.first); first_le_end = omega (arith, operand_some o.second); end_le_most_rows = omega arith }
 
 pub fold_alone-requires : goal.fold_alone-requires
 fold_alone-requires c = let pre = c.requires in
@@ -46,7 +46,7 @@ fold_alone-requires c = let pre = c.requires in
     let moved =
     moved_down_lem (additive c.args.operator) s a b o c.both_sums.ensures c.if-both_sums.false c.is_constant.ensures
     c.if-is_constant.false (room_of_both o (omega arith) pre.end_lt_most_rows) c.is_constant-2.ensures c.if-is_constant-2.true
-    c.move_down.ensures in record { end_lt_most_rows = omega arith; one = (s.right, b, moved) }
+    c.move_down.ensures in record { plan_length_in_bounds = omega arith; end_lt_most_rows = omega arith; one = (s.right, b, moved) }
 
 pub returns-then-is_constant-2 : goal.returns-then-is_constant-2
 returns-then-is_constant-2 c =

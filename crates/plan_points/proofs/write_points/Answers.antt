@@ -1,4 +1,4 @@
-use Rattle.std.proofs.Common.{refl, sym, ap, ap₂, ◌∙◌, set, arith}
+use Rattle.std.proofs.Common.{refl, sym, ap, ap₂, ◌∙◌, set, arith, rules}
 use Rattle.plan.specs.Plan.{sound}
 use Rattle.plan.specs.Points.{root_value, shifted_plan}
 use Rattle.plan.specs.Filling.{plan_after, point_values}
@@ -13,7 +13,7 @@ unfolding plan_after point_values counted_over
 loop-word-init g c = (refl, refl, refl)
 
 pub root_value-requires : goal.root_value-requires
-root_value-requires g c = ap sound c.loop-word.invariant.0 ∙ sound-after 64 c.loop-word.word-index c.args.plan.now ∙ c.requires
+root_value-requires g c = record { plan_length_in_bounds = search rules; plan_value = ap sound c.loop-word.invariant.0 ∙ sound-after 64 c.loop-word.word-index c.args.plan.now ∙ c.requires }
 
 pub count-sum-requires : goal.count-sum-requires
 count-sum-requires g c = ap sound c.loop-word.invariant.0 ∙ sound-after 64 c.loop-word.word-index c.args.plan.now ∙ c.requires
