@@ -1,11 +1,7 @@
 // Crossings of an era's end: how a chain crosses in a shift, and fillings of a plan with era count.
 // Chains in postfix are read in `chains`; a plan's rows and other tokens in `plans`, which calls on this for the token e.
-use crate::plans;
-use crate::plans::TABLE_WORDS;
 use edges_calls::chains;
 use edges_print::Judgement;
-use edges_text::rows::CasePlan;
-use edges_text::words;
 use std::io;
 
 // number place crossing
@@ -18,7 +14,12 @@ pub fn turn(rt: &impl Print, name: &[u8], body: &[u8]) -> io::Result<()> {
 }
 
 // Fills the lent words, and answers the points written: number place points spent sum.
-fn count(rt: &impl Print, plan: &mut [u64], table: &mut [u64], budget: u64) -> io::Result<usize> {
+pub fn count(
+    rt: &impl Print,
+    plan: &mut [u64],
+    table: &mut [u64],
+    budget: u64,
+) -> io::Result<usize> {
     let answer = plan_eras::fill_eras(plan, table, budget);
     let judgement = Judgement::of(&answer);
     let (points, spent, sum) = answer.map_or(
@@ -27,17 +28,4 @@ fn count(rt: &impl Print, plan: &mut [u64], table: &mut [u64], budget: u64) -> i
     );
     print!(rt; "\teras {judgement} {points} {spent} {sum}")?;
     Ok(points)
-}
-
-// e10,15 is to t10,15 what filling with era count is to filling.
-pub fn fill(
-    rt: &impl Print,
-    token: &[u8],
-    plan: &mut CasePlan,
-    table: &mut [u64; TABLE_WORDS],
-) -> io::Result<()> {
-    let [points, budget] = words::list::<2>(token);
-    let room = (points as usize).min(TABLE_WORDS);
-    let points = count(rt, plan.lent(), &mut table[..room], budget)?;
-    plans::print_lent(rt, table, points, &plan.words)
 }

@@ -33,7 +33,7 @@ fn case(rt: &impl Print, section: u8, line: &[u8], expanded: &[u8]) -> io::Resul
     }
 }
 
-// Runs a case, unless the line is empty, a comment or the name of a section. Answers the section of the next line.
+// Runs a case, unless the line is empty, begins with a byte 0, is a comment or the name of a section. Answers the section of the next line.
 fn turn(rt: &impl Print, section: u8, line: &[u8]) -> io::Result<u8> {
     match line {
         [] | [0 | b';', ..] => Ok(section),

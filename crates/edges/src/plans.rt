@@ -8,7 +8,7 @@ use plan::{MOST_ROWS, PLAN_WORDS, ROW_WORDS, SPAN_START};
 use std::{fmt, io};
 
 // The words of a case's table.
-pub const TABLE_WORDS: usize = 4096;
+const TABLE_WORDS: usize = 4096;
 
 // A row's kind, and its other words up to the last one before its span that is not 0.
 fn shown(row: &[u64; ROW_WORDS]) -> List<'_> {
@@ -61,7 +61,7 @@ impl fmt::Display for Spans<'_> {
 }
 
 // The words of the table that were written and two more, at most 22; the number of rows and the first 10; and the checksums.
-pub fn print_lent(
+fn print_lent(
     rt: &impl Print,
     table: &[u64; TABLE_WORDS],
     points: usize,
@@ -92,15 +92,19 @@ fn ask(rt: &impl Print, plan: &mut [u64], table: &mut [u64], budget: u64) -> io:
     Ok(points)
 }
 
-fn fill(
+// Asks for a filling of a table of so many words on a budget, as the token says, and prints what is lent then.
+fn fill<F: FnOnce(&mut [u64], &mut [u64], u64) -> io::Result<usize>>(
     rt: &impl Print,
     token: &[u8],
     plan: &mut CasePlan,
     table: &mut [u64; TABLE_WORDS],
-) -> io::Result<()> {
+    ask: F,
+) -> io::Result<()>
+    requires { F.IsAlwaysCallable ask }
+{
     let [points, budget] = words::list::<2>(token);
     let room = (points as usize).min(TABLE_WORDS);
-    let points = ask(rt, plan.lent(), &mut table[..room], budget)?;
+    let points = ask(plan.lent(), &mut table[..room], budget)?;
     print_lent(rt, table, points, &plan.words)
 }
 
@@ -147,8 +151,20 @@ fn step(
     table: &mut [u64; TABLE_WORDS],
 ) -> io::Result<()> {
     match token {
-        [b't', ..] => fill(rt, token, plan, table),
-        [b'e', ..] => eras::fill(rt, token, plan, table),
+        [b't', ..] => fill(
+            rt,
+            token,
+            plan,
+            table,
+            |plan, table, budget| ask(rt, plan, table, budget),
+        ),
+        [b'e', ..] => fill(
+            rt,
+            token,
+            plan,
+            table,
+            |plan, table, budget| eras::count(rt, plan, table, budget),
+        ),
         [b's', ..] => print!(rt; "\tspans{}", Spans(&plan.words)),
         [b'=', formula @ ..] => compile_on(rt, formula, rows::PLAIN, plan),
         [b'g', gridded @ ..] => {

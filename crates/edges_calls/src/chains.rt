@@ -83,7 +83,7 @@ impl Stack {
         self.second.unwrap_or(ZERO)
     }
 
-    pub fn pushed(self, top: Result<Chain, Refusal>) -> Stack {
+    fn pushed(self, top: Result<Chain, Refusal>) -> Stack {
         Stack {
             top,
             second: self.top,
@@ -129,7 +129,7 @@ fn of_elements(f: Chain) -> Result<Chain, Refusal> {
 }
 
 // A list of words, or m or o with a length. The length of a listed chain is one less than the words, so over 16 from 18 words on.
-pub fn operand(token: &[u8]) -> Chain {
+fn operand(token: &[u8]) -> Chain {
     match token {
         [b'm', ..] => Chain {
             length: text::number(token, 0) as usize,

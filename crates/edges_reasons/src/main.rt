@@ -60,7 +60,7 @@ fn run(rt: &impl Print, line: &[u8], tokens: &[u8]) -> io::Result<()> {
     println!(rt; "")
 }
 
-// Runs a case, unless the line is empty or a comment.
+// Runs a case, unless the line is empty, begins with a byte 0 or is a comment.
 fn turn(rt: &impl Print, line: &[u8]) -> io::Result<()> {
     match line {
         [] | [0 | b';', ..] => Ok(()),

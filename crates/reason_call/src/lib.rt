@@ -1,5 +1,5 @@
 // Why a row of a plan is still there, for callers. Any words may be lent, and any row asked for.
-// What the reasons are, and that a row has exactly one, is in `reason`, their numbers are found in `reason_numbers`; whether a plan is sound is checked
+// What the reasons are, and that a row has exactly one, is in `reason`; which one it is by what is seen of operands, is found in `reason_numbers`; whether a plan is sound is checked
 // in `plan_sound`.
 #![tactic(auto)]
 

@@ -1,5 +1,5 @@
 // A run of a tool over a job file, as steps over lent buffers: each takes the input up to a line feed and writes what the line prints.
-// What a whole line does is in `table_lines`; reading and writing files is the program's.
+// What a whole line does is in `table_lines`; files are read and written in `table_runs`.
 #![tactic(auto)]
 
 ghost use Rattle.std.specs.Prelude.{◌≡◌, true, ◌+◌, ◌-◌, ◌^◌, ◌≤◌, ◌<◌, length};
