@@ -14,7 +14,7 @@ ghost use Rattle.table_progress.specs.Printed.{TextsWithin, plan_left, table_lef
 
 use table::{BadLine, Job, Tool};
 
-// A job line that is refused, or with number 0 the defaults line.
+// A line that is refused: with number 0 the defaults line. What a refused job line prints is the same, and its place may be any.
 pub fn print_bad_line(n: u64, bad: BadLine, out: &mut [u8]) -> usize
     requires { 67 ≤ length out.old }
     ensures { Wrote out.old 0 (no_line n 11 (bad_place bad)) result out.new }
