@@ -26,6 +26,7 @@ pub trait Operation {
         ensures { result ≡ worked operation a b };
 }
 
+#[derive(Clone, Copy)]
 pub struct Sum;
 
 impl Operation for Sum {
@@ -36,6 +37,7 @@ impl Operation for Sum {
     }
 }
 
+#[derive(Clone, Copy)]
 pub struct Difference;
 
 impl Operation for Difference {
@@ -46,6 +48,7 @@ impl Operation for Difference {
     }
 }
 
+#[derive(Clone, Copy)]
 pub struct Product;
 
 impl Operation for Product {
@@ -56,6 +59,7 @@ impl Operation for Product {
     }
 }
 
+#[derive(Clone, Copy)]
 pub struct Power;
 
 impl Operation for Power {

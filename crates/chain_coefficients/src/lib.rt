@@ -2,13 +2,12 @@
 // The arithmetic of chains themselves is in `chain_calls`.
 #![tactic(auto)]
 
-ghost use Rattle.std.specs.Prelude.{◌≡◌, ◌%◌, ◌^◌, ◌<◌, length};
-ghost use Rattle.chain.specs.Chain.{row, words};
+ghost use Rattle.std.specs.Prelude.{◌≡◌, ◌-◌, ◌%◌, ◌^◌, ◌<◌, length};
+ghost use Rattle.chain.specs.Chain.{trimmed, row, words};
 ghost use Rattle.chain.specs.Coefficients.{onto, element_from, from_coefficients};
 ghost use Rattle.chain.specs.Answer.{as_chain_answer, answered, coefficients_outcome};
 
 use chain::{Chain, Refusal};
-use chain_arrays::accepted;
 
 // Entry 17 * j + m is m! * S(j, m), j and m from 0 to 16: how many ways there are to map j things onto m.
 // Kept: 01 asks for the numbers in "a table of 289 numbers".
@@ -337,6 +336,18 @@ fn elements(a: &[u64]) -> [u64; 17]
     r
 }
 
+// The place of the last element that is not 0, or 0. Place by place, so that the elements may stay in registers.
+fn last_other(elements: [u64; 17]) -> usize
+    ensures { result ≡ length (trimmed 0 elements) - 1 }
+{
+    for at in (0..17).rev() {
+        if elements[at] != 0 {
+            return at;
+        }
+    }
+    0
+}
+
 // The trimmed chain of the polynomial a0 + a1 * i + .. in the index i. Over 17 coefficients are refused.
 pub fn from_coefficients(a: &[u64]) -> Result<Chain, Refusal>
     ensures { as_chain_answer result ≡ answered (coefficients_outcome 64 a.now) }
@@ -344,5 +355,9 @@ pub fn from_coefficients(a: &[u64]) -> Result<Chain, Refusal>
     if 17 < a.len() {
         return Err(Refusal::TooManyCoefficients);
     }
-    Ok(accepted(elements(a)))
+    let elements = elements(a);
+    Ok(Chain {
+        length: last_other(elements),
+        elements,
+    })
 }

@@ -138,6 +138,8 @@ fn fold_nodes(plan: &mut PlanWords, grid: Grid) -> usize
 }
 
 // The plan of the folded tree, in all of the plan's own words.
+// Never inlined: the reader's calls go 33 deep below the frame of `compile`, so the arrays of folding have a frame of their own.
+#[inline(never)]
 pub fn fold_tree(plan: &mut PlanWords, grid: Grid)
     requires { (t : Tree) × Compilable grid.start grid.step t × Written plan.old t }
     ensures { (t : Tree) → Compilable grid.start grid.step t → Written plan.old t

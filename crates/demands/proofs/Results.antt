@@ -28,6 +28,12 @@ use Rattle.probe.specs.declared.Reading.{Reading as Probed}
 use Rattle.probe.specs.declared.ToleranceTooLarge.{ToleranceTooLarge}
 use Rattle.probe.specs.Answer.{ProbeAnswer, as_probe_answer}
 use Rattle.probe.proofs.Laws as Probe
+use Rattle.table.specs.declared.Tool.{Tool}
+use Rattle.table_progress.specs.declared.NotDone.{NotDone}
+use Rattle.table_progress.specs.declared.Progress.{Progress}
+use Rattle.table_progress.specs.declared.Stepped.{Stepped as Step}
+use Rattle.table_progress.specs.Steps.{Buffers, as_stepped, stepped, finished}
+use Rattle.table_progress.proofs.Uniqueness.{step-unique, finish_unique, same-stepped}
 
 -- ---- chains: of every call that answers a chain, a shift or a word
 pub chain_result_unique : (r s : Result Chain ChainRefusal) (outcome : Outcome)
@@ -70,3 +76,14 @@ reason_result_unique w plan row r s A B = Reasons.same-result r s (explaining-un
 
 pub probe_result_unique : (r s : Result Probed ToleranceTooLarge) (answer : ProbeAnswer) → as_probe_answer r ≡ answer → as_probe_answer s ≡ answer → r ≡ s
 probe_result_unique r s answer p q = Probe.same-result r s (p ∙ sym q)
+
+-- ---- a run's steps and its end, and the buffers that they leave
+pub step_result_unique : (tool : Tool) (p : Progress) (input : List ℕ) (b : Buffers) (r s : Result Step NotDone) {after after' : Buffers}
+    → record { answer = as_stepped p r; buffers = after } ≡ stepped tool p input b
+    → record { answer = as_stepped p s; buffers = after' } ≡ stepped tool p input b → (r ≡ s) × (after ≡ after')
+step_result_unique tool p input b r s A B = let told = step-unique tool p input b A B in (same-stepped p r s told.0, told.1)
+
+pub finish_result_unique : (tool : Tool) (p : Progress) (b : Buffers) (r s : Result Step NotDone) {after after' : Buffers}
+    → record { answer = as_stepped p r; buffers = after } ≡ finished tool p b
+    → record { answer = as_stepped p s; buffers = after' } ≡ finished tool p b → (r ≡ s) × (after ≡ after')
+finish_result_unique tool p b r s A B = let told = finish_unique tool p b A B in (same-stepped p r s told.0, told.1)

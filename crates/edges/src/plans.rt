@@ -2,7 +2,7 @@
 // Formulas that are only read are in `formulas`, those on many grids in `grids`.
 use crate::eras;
 use edges_print::{Judgement, List, clean, kept};
-use edges_text::rows::{CASE_WORDS, CasePlan, END_BYTE, Grid};
+use edges_text::rows::{CASE_WORDS, CasePlan, Grid};
 use edges_text::{rows, text, words};
 use plan::{MOST_ROWS, PLAN_WORDS, ROW_WORDS, SPAN_START};
 use std::{fmt, io};
@@ -54,14 +54,14 @@ impl fmt::Display for Spans<'_> {
         }
         let (rows, _) = rows.as_chunks::<ROW_WORDS>();
         for row in rows.iter().take(count) {
-            write!(f, " {}..{}", row[SPAN_START], row[END_BYTE])?;
+            write!(f, " {}..{}", row[SPAN_START], row[SPAN_START + 1])?;
         }
         Ok(())
     }
 }
 
 // The words of the table that were written and two more, at most 22; the number of rows and the first 10; and the checksums.
-fn print_lent(
+pub fn print_lent(
     rt: &impl Print,
     table: &[u64; TABLE_WORDS],
     points: usize,
@@ -168,7 +168,7 @@ fn step(
         [b's', ..] => print!(rt; "\tspans{}", Spans(&plan.words)),
         [b'=', formula @ ..] => compile_on(rt, formula, rows::PLAIN, plan),
         [b'g', gridded @ ..] => {
-            let grid = rows::grid_of(text::before(gridded, b':'));
+            let grid = rows::grid_of(token);
             compile_on(rt, text::after(gridded, b':'), grid, plan)
         }
         [b'p', ..] => {

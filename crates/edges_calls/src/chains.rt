@@ -60,9 +60,9 @@ const MOST_LISTED: usize = 64;
 // Three answers. What is refused stands for the constant 0 in the calls that follow.
 #[derive(Clone, Copy)]
 pub struct Stack {
-    top: Result<Chain, Refusal>,
-    second: Result<Chain, Refusal>,
-    third: Result<Chain, Refusal>,
+    pub top: Result<Chain, Refusal>,
+    pub second: Result<Chain, Refusal>,
+    pub third: Result<Chain, Refusal>,
 }
 
 impl Stack {
@@ -129,7 +129,7 @@ fn of_elements(f: Chain) -> Result<Chain, Refusal> {
 }
 
 // A list of words, or m or o with a length. The length of a listed chain is one less than the words, so over 16 from 18 words on.
-fn operand(token: &[u8]) -> Chain {
+pub fn operand(token: &[u8]) -> Chain {
     match token {
         [b'm', ..] => Chain {
             length: text::number(token, 0) as usize,

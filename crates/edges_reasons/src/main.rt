@@ -36,7 +36,7 @@ fn step(rt: &impl Print, token: &[u8], plan: &mut CasePlan) -> io::Result<()> {
         [b'r', row @ ..] => ask(rt, plan.lent(), text::number(row, 0) as usize),
         [b'=', formula @ ..] => compile_on(rt, formula, rows::PLAIN, plan),
         [b'g', gridded @ ..] => {
-            let grid = rows::grid_of(text::before(gridded, b':'));
+            let grid = rows::grid_of(token);
             compile_on(rt, text::after(gridded, b':'), grid, plan)
         }
         _ => {

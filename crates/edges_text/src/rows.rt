@@ -6,8 +6,10 @@ use plan::{PLAN_WORDS, ROW_WORDS, SPAN_START};
 // The words of a case's plan, some of them past those that a call may reach.
 pub const CASE_WORDS: usize = 3000;
 
-// The place of a row's end byte.
-pub const END_BYTE: usize = SPAN_START + 1;
+// In row 0: the place behind its elements, and that of its end byte.
+pub const ELEMENTS_END: usize = 1 + SPAN_START;
+
+pub const END_BYTE: usize = ELEMENTS_END + 1;
 
 // The grid of a formula of which a case says none.
 pub const PLAIN: Grid = Grid { start: 0, step: 1 };
@@ -52,9 +54,9 @@ impl CasePlan {
 // The next row. Its text is the first byte, unless the token has a word for its end.
 pub fn add(token: &[u8], plan: &mut [u64]) {
     let r = words::word_at(plan, 0);
-    let start = r.wrapping_mul(ROW_WORDS as u64).wrapping_add(1) as usize;
-    words::put(plan, start.wrapping_add(END_BYTE), 1);
-    words::put_list(token, r, plan, start);
+    let before = r.wrapping_mul(ROW_WORDS as u64) as usize;
+    words::put(plan, before.wrapping_add(END_BYTE), 1);
+    words::put_list(token, r, plan, before.wrapping_add(1));
     words::put(plan, 0, r.wrapping_add(1));
 }
 
@@ -64,10 +66,11 @@ pub fn plant(token: &[u8], plan: &mut [u64]) {
     words::put_list(text::after(token, b','), 0, plan, start);
 }
 
-// 5,2 has start 5 and step 2.
-pub fn grid_of(list: &[u8]) -> Grid {
+// g5,2:x^3 has start 5 and step 2; the formula stands behind the colon.
+pub fn grid_of(token: &[u8]) -> Grid {
+    let numbers = text::before(text::after(token, b'g'), b':');
     Grid {
-        start: text::number(text::before(list, b','), 0),
-        step: text::number(text::after(list, b','), 0),
+        start: text::number(text::before(numbers, b','), 0),
+        step: text::number(text::after(numbers, b','), 0),
     }
 }

@@ -2,6 +2,7 @@
 // What a part stands for is up to the modules above.
 ghost use Rattle.std.specs.Prelude.{◌≡◌, ◌==◌, ◌≤◌, length};
 ghost use Rattle.std.specs.List.{position};
+ghost use Rattle.std.specs.Io.BufRead.{strip_last};
 ghost use Rattle.table.specs.Parts.{before, after};
 
 // Where the first mark stands.
@@ -33,7 +34,9 @@ pub fn after(text: &[u8], mark: u8) -> &[u8]
 }
 
 // A part that a text is split into, without the mark that ends it.
-pub fn unmarked(part: &[u8], mark: u8) -> &[u8] {
+pub fn unmarked(part: &[u8], mark: u8) -> &[u8]
+    ensures { result.now ≡ strip_last mark part.now }
+{
     match part {
         [before @ .., last] if *last == mark => before,
         _ => part,

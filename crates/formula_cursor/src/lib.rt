@@ -3,7 +3,7 @@
 #![tactic(auto)]
 
 ghost use Rattle.std.specs.Prelude.{◌≡◌, [], ◌≤◌, ◌<◌, length};
-ghost use Rattle.formula_scan.specs.Fields.{as_parsed, as_found};
+ghost use Rattle.formula_scan.specs.Fields.{as_found};
 ghost use Rattle.formula_scan.specs.Readers.{fault_places};
 ghost use Rattle.formula_cursor.specs.Whole.{Scanned, if_ended, WholeRead};
 
@@ -27,13 +27,13 @@ fn sum_from(text: &[u8], place: usize, tree: &mut [u64]) -> Result<Parsed, usize
 }
 
 // What was read of a sum, if no byte is left from a place on; else no formula goes on past that place.
-fn if_ended(text: &[u8], place: usize, sum: Parsed) -> Result<Parsed, usize>
-    ensures { as_found result ≡ if_ended text.now place (as_parsed sum) }
+fn if_ended(text: &[u8], place: usize, sum: Result<Parsed, usize>) -> Result<Parsed, usize>
+    ensures { as_found result ≡ if_ended text.now place (as_found sum) }
 {
     if place < text.len() {
         return Err(place);
     }
-    Ok(sum)
+    sum.or(Err(place))
 }
 
 // A cursor at the start of a text.
@@ -44,12 +44,16 @@ pub fn at_start<'a>(text: &'a [u8]) -> Cursor<'a>
 }
 
 // The same text, at the place that a sum reached.
-pub fn past<'a>(cursor: Cursor<'a>, sum: Parsed) -> Cursor<'a>
-    ensures { (result.text ≡ cursor.entry.text) × (result.place ≡ sum.at) }
+pub fn past<'a>(cursor: Cursor<'a>, sum: Result<Parsed, usize>) -> Cursor<'a>
+    ensures { (result.text ≡ cursor.entry.text) × (result.place ≡ (as_found sum).at) }
 {
+    let place = match sum {
+        Ok(parsed) => parsed.at,
+        Err(at) => at,
+    };
     Cursor {
         text: cursor.text,
-        place: sum.at,
+        place,
     }
 }
 
@@ -62,8 +66,8 @@ pub fn read_sum<'a, 'b>(cursor: Cursor<'a>, tree: &'b mut [u64]) -> Result<Parse
 }
 
 // What was read of a sum, if the cursor is at the text's end; else no formula goes on past the cursor's place.
-pub fn if_at_end<'a>(cursor: Cursor<'a>, sum: Parsed) -> Result<Parsed, usize>
-    ensures { as_found result ≡ if_ended cursor.entry.text.now cursor.entry.place (as_parsed sum) }
+pub fn if_at_end<'a>(cursor: Cursor<'a>, sum: Result<Parsed, usize>) -> Result<Parsed, usize>
+    ensures { as_found result ≡ if_ended cursor.entry.text.now cursor.entry.place (as_found sum) }
 {
     if_ended(cursor.text, cursor.place, sum)
 }
@@ -74,7 +78,7 @@ pub fn read_whole(text: &[u8], tree: &mut [u64]) -> Result<Parsed, usize>
     ensures { WholeRead 64 text.now tree.old (as_found result) tree.new }
 {
     let start = at_start(text);
-    let sum = read_sum(start, tree)?;
+    let sum = read_sum(start, tree);
     if_at_end(past(start, sum), sum)
 }
 

@@ -17,13 +17,14 @@ use formula_packing::{held, left_of, packed, unpacked};
 use formula_scan::Parsed;
 
 // The first place from `at` on without a minus sign.
+// Kept: by the place itself, since a count of the signs passed lives across the readers' call beside it, which takes 16 bytes of stack a bracket.
 fn after_minus_signs(text: &[u8], at: usize) -> usize
     requires { at ≤ length text.now }
     ensures { MinusSigns text.now at result }
 {
-    for (passed, &byte) in text[at..].iter().enumerate() {
-        if byte != b'-' {
-            return at + passed;
+    for place in at..text.len() {
+        if text[place] != b'-' {
+            return place;
         }
     }
     text.len()

@@ -3,13 +3,13 @@
 #![tactic(auto)]
 
 ghost use Rattle.std.specs.Prelude.{◌≡◌, true, ◌≤◌, ◌<◌, length};
-ghost use Rattle.plan.specs.Measures.{row_length};
+ghost use Rattle.plan.specs.Measures.{plan_length, row_length};
 ghost use Rattle.plan.specs.Row.{kind, word_b, row_cost};
 ghost use Rattle.plan.specs.Plan.{sound, cost};
 ghost use Rattle.plan.specs.Answers.{as_cost_answer};
 ghost use Rattle.plan.specs.Filling.{cost_answer};
 
-use plan::{PLAN_WORDS, PlanWords, Refusal};
+use plan::{PLAN_WORDS, Refusal};
 use plan_rows::kinds::{NoKind, RowKind};
 use plan_rows::{kinds, row};
 use plan_sound::sound;
@@ -29,8 +29,9 @@ pub fn row_cost(row: &[u64]) -> u64
     }
 }
 
-pub fn plan_cost(plan: &PlanWords) -> u64
-    requires { sound plan.now ≡ true }
+pub fn plan_cost(plan: &[u64]) -> u64
+    requires plan_length_in_bounds { plan_length ≤ length plan.now }
+    requires plan_value { sound plan.now ≡ true }
     ensures value { result ≡ cost plan.now }
     ensures upper_bound { result ≤ 16384 }
 {

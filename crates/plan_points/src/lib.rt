@@ -67,8 +67,9 @@ fn shift_row(row: &mut [u64])
     }
 }
 
-pub fn shift_plan(plan: &mut PlanWords)
-    requires { sound plan.old ≡ true }
+pub fn shift_plan(plan: &mut [u64])
+    requires plan_length_in_bounds { plan_length ≤ length plan.old }
+    requires plan_value { sound plan.old ≡ true }
     ensures { plan.new ≡ shifted_plan 64 plan.old }
 {
     let count = plan[0] as usize;

@@ -34,7 +34,7 @@ byte_found b s = go (ltb (position_or_len (λ c. eqb c b) s) (length s)) refl
 -- ---- the parts that tabs cut a line into
 
 -- Parts are as many as fields.
-counted : (l : List ℕ) → count tab l ≡ count_by (λ c. eqb c tab) l
+pub counted : (l : List ℕ) → count tab l ≡ count_by (λ c. eqb c tab) l
 unfolding count
 counted = is_count_by (count tab) (λ c. eqb c tab) refl (λ c s. go s (eqb c tab))
   where

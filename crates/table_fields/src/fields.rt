@@ -37,5 +37,5 @@ pub fn pick<'a>(job: &'a [u8], defaults: &'a [u8], n: usize) -> &'a [u8]
 pub fn count_fields(line: &[u8]) -> usize
     ensures { result ≡ field_count line.now }
 {
-    line.split(|b| *b == b'\t').count()
+    1 + line.iter().filter(|b| **b == b'\t').count()
 }

@@ -8,13 +8,13 @@ ghost use Rattle.plan.specs.Plan.{refusal};
 ghost use Rattle.plan.specs.Filling.{point_values};
 ghost use Rattle.table_fields.specs.Writing.{Wrote};
 ghost use Rattle.table.specs.declared.Tool.TheVariants.{Tables};
-ghost use Rattle.table.specs.Judged.{bad_place, as_job_line};
+ghost use Rattle.table.specs.Judged.{bad_place, as_job_line, placed_job_line};
 ghost use Rattle.table.specs.Lines.{no_line, point_lines};
 ghost use Rattle.table_progress.specs.Printed.{TextsWithin, plan_left, table_left, PlanPrinted, JobPrinted};
 
 use table::{BadLine, Job, Tool};
 
-// A job line that is refused, or with number 0 the defaults line.
+// A line that is refused: with number 0 the defaults line. What a refused job line prints is the same, and its place may be any.
 pub fn print_bad_line(n: u64, bad: BadLine, out: &mut [u8]) -> usize
     requires { 67 ≤ length out.old }
     ensures { Wrote out.old 0 (no_line n 11 (bad_place bad)) result out.new }
@@ -84,25 +84,25 @@ fn print_taken(
     print_plan(tool, n, formula, plan, points, out)
 }
 
-// Job n as its line was judged, with the formula taken: what it prints from place 0 on. Answers the place behind it.
+// Job n as its line was judged, a refusal by its place, with the formula taken: what it prints from place 0 on. Answers the place behind it.
 pub fn print_job(
     tool: Tool,
     n: u64,
-    job: Result<Job, BadLine>,
+    job: Result<Job, u64>,
     formula: &[u8],
     plan: &mut [u64],
     table: &mut [u64],
     out: &mut [u8],
 ) -> usize
     requires plan_len { length plan.old ≡ plan_length }
-    requires count_in_bounds { (as_job_line job).count ≤ length table.old }
+    requires count_in_bounds { (placed_job_line job).count ≤ length table.old }
     requires table_len_bound { length table.old ≤ 4096 }
     requires in_bounds { 67 + 42 * 4096 ≤ length out.old }
-    ensures { JobPrinted tool n (as_job_line job) formula.now plan.old table.old out.old result
+    ensures { JobPrinted tool n (placed_job_line job) formula.now plan.old table.old out.old result
         plan.new table.new out.new }
 {
     match job {
         Ok(job) => print_taken(tool, n, job, formula, plan, table, out),
-        Err(bad) => print_bad_line(n, bad, out),
+        Err(place) => table_job_lines::write_no_line(out, n, 11, place),
     }
 }

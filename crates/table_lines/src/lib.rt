@@ -5,6 +5,7 @@
 ghost use Rattle.std.specs.Prelude.{◌≡◌, List, ℕ, ◌+◌, ◌-◌, ◌*◌, ◌^◌, ◌≤◌, ◌<◌, length};
 ghost use Rattle.plan.specs.Measures.{plan_length};
 ghost use Rattle.table.specs.declared.Tool.{Tool};
+ghost use Rattle.table.specs.Judged.{as_job_line, placed_job_line};
 ghost use Rattle.table.specs.Lines.{no_line};
 ghost use Rattle.table_fields.specs.Writing.{Wrote};
 ghost use Rattle.table_progress.specs.Printed.{job_prints};
@@ -84,6 +85,13 @@ fn end_defaults(line: &[u8], defaults: &mut [u8], out: &mut [u8]) -> LineDone
     }
 }
 
+// A judged job line, a refusal by its place.
+fn by_place(job: Result<table::Job, BadLine>) -> Result<table::Job, u64>
+    ensures { placed_job_line result ≡ as_job_line job }
+{
+    job.map_err(|bad| bad.place())
+}
+
 // A job line, with the defaults that were kept.
 // Kept: the buffers are parameters, here and in `end_line`. A struct that lends them shows what it leaves as nested pairs (`lent.exit.1.1.0.now`), and lent as
 // `&mut` asks a clause a buffer that it is still the same one.
@@ -108,7 +116,7 @@ fn end_job<'a>(
     let wrote = table_jobs::print_job(
         tool,
         progress.number,
-        table_line_checks::judge_job(line, defaults),
+        by_place(table_line_checks::judge_job(line, defaults)),
         fields::pick(line, defaults, 1),
         &mut plan[..PLAN_WORDS],
         &mut table[..MOST_POINTS],

@@ -13,7 +13,9 @@ returns-in_err-sound c =
     (cost_refused c.in-Some.words.now _ c.in_err-sound.ensures ∙ ap cost_answer whole.same ∙ lent_cost_answer c.args.plan.now whole.enough)
 
 pub plan_cost-requires : goal.plan_cost-requires
-plan_cost-requires c = (accepted c.in-Some.words.now (found_sound c.in-Some.words.now c.in_ok-sound.ensures)).1
+plan_cost-requires c =
+    let fine = accepted c.in-Some.words.now (found_sound c.in-Some.words.now c.in_ok-sound.ensures) in
+    record { plan_length_in_bounds = fine.0; plan_value = fine.1 }
 
 pub returns : goal.returns
 returns c =

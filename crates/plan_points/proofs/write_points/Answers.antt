@@ -19,7 +19,7 @@ pub count-sum-requires : goal.count-sum-requires
 count-sum-requires g c = ap sound c.loop-word.invariant.0 ∙ sound-after 64 c.loop-word.word-index c.args.plan.now ∙ c.requires
 
 pub shift_plan-requires : goal.shift_plan-requires
-shift_plan-requires g c = ap sound c.loop-word.invariant.0 ∙ sound-after 64 c.loop-word.word-index c.args.plan.now ∙ c.requires
+shift_plan-requires g c = record { plan_length_in_bounds = search rules; plan_value = ap sound c.loop-word.invariant.0 ∙ sound-after 64 c.loop-word.word-index c.args.plan.now ∙ c.requires }
 
 pub overflow_add-sum : goal.overflow_add-sum
 overflow_add-sum g c =

@@ -1,14 +1,17 @@
--- `count_fields` counts the parts that tabs cut the line into.
-use Rattle.std.proofs.Common.{rules, tests, ◌∙◌}
-use Rattle.std.proofs.lemmas.Iterator.Consumers.{count_from_yields_List}
-use Rattle.std.proofs.lemmas.Iterator.Splits.{YieldsList-from_slice_split}
+-- `count_fields` counts the tabs of the line, and one.
+use Rattle.std.proofs.Common.{arith, rules, tests}
+use Rattle.std.proofs.lemmas.Iterator.{YieldsList-from_slice}
+use Rattle.std.proofs.lemmas.Iterator.Consumers.{YieldsList-from_filter, count_from_yields_List}
+use Rattle.std.proofs.lemmas.List.Sums.{length-filter}
 use lib.Dec.{eqb}
-use Rattle.table_fields.proofs.Finding.{fields_counted}
+use Rattle.table_fields.proofs.Finding.{counted}
 use Rattle.table_fields.proofs.fields.count_fields.Goals as goal
 
 pub returns : goal.returns
 returns c =
-    let cut = c.split.ensures in
+    let line = c.args.line.now in
+    let tabs =
     count_from_yields_List _ _ c.count.ensures.ran
-    (YieldsList-from_slice_split _ (λ b. eqb b 9) c.args.line.now cut.rest cut.done cut.closure (λ x b q k. search (rules, tests)))
-    ∙ fields_counted c.args.line.now
+    (YieldsList-from_filter _ (λ b. eqb b 9) (YieldsList-from_slice line cc) c.filter.ensures.closure (λ x b q k. search (rules, tests)))
+    in
+    omega (arith, tabs, length-filter (λ b. eqb b 9) line, counted line)
