@@ -336,7 +336,9 @@ fn elements(a: &[u64]) -> [u64; 17]
     r
 }
 
-// The place of the last element that is not 0, or 0. Place by place, so that the elements may stay in registers.
+// The place of the last element that is not 0, or 0.
+// Kept: `chain_arrays::trimmed_length` answers the same, of a slice, for which all elements are written to memory first: 209 instructions for no
+// coefficients where this takes 82, and 272 bytes of stack where this takes 144.
 fn last_other(elements: [u64; 17]) -> usize
     ensures { result ≡ length (trimmed 0 elements) - 1 }
 {

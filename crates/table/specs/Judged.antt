@@ -91,11 +91,6 @@ abbrev pub as_job_line : Result Job BadLine → JobLine
 as_job_line (Ok job) = record { ok = true; place = 0; start = job.start; step = job.step; count = job.count }
 as_job_line (Err bad) = job_refused (bad_place bad)
 
--- The same, of a line whose refusal is told by its place.
-abbrev pub placed_job_line : Result Job ℕ → JobLine
-placed_job_line (Ok job) = record { ok = true; place = 0; start = job.start; step = job.step; count = job.count }
-placed_job_line (Err place) = job_refused place
-
 abbrev pub judged_numbers : List ℕ → List ℕ → List ℕ → JobLine
 judged_numbers start step count =
     cond (eqb (bad_number start step count) 0)

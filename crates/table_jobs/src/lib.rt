@@ -8,9 +8,10 @@ ghost use Rattle.plan.specs.Plan.{refusal};
 ghost use Rattle.plan.specs.Filling.{point_values};
 ghost use Rattle.table_fields.specs.Writing.{Wrote};
 ghost use Rattle.table.specs.declared.Tool.TheVariants.{Tables};
-ghost use Rattle.table.specs.Judged.{bad_place, as_job_line, placed_job_line};
+ghost use Rattle.table.specs.Judged.{bad_place, as_job_line};
 ghost use Rattle.table.specs.Lines.{no_line, point_lines};
 ghost use Rattle.table_progress.specs.Printed.{TextsWithin, plan_left, table_left, PlanPrinted, JobPrinted};
+ghost use Rattle.table_jobs.specs.Placed.{placed_job_line};
 
 use table::{BadLine, Job, Tool};
 

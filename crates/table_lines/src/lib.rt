@@ -5,7 +5,8 @@
 ghost use Rattle.std.specs.Prelude.{◌≡◌, List, ℕ, ◌+◌, ◌-◌, ◌*◌, ◌^◌, ◌≤◌, ◌<◌, length};
 ghost use Rattle.plan.specs.Measures.{plan_length};
 ghost use Rattle.table.specs.declared.Tool.{Tool};
-ghost use Rattle.table.specs.Judged.{as_job_line, placed_job_line};
+ghost use Rattle.table.specs.Judged.{as_job_line};
+ghost use Rattle.table_jobs.specs.Placed.{placed_job_line};
 ghost use Rattle.table.specs.Lines.{no_line};
 ghost use Rattle.table_fields.specs.Writing.{Wrote};
 ghost use Rattle.table_progress.specs.Printed.{job_prints};

@@ -1,7 +1,7 @@
 -- `print_job` goes by the line's judgement.
 use mathlib.Core.Path.{refl}
 use Rattle.std.proofs.Common.{Err}
-use Rattle.table.specs.Judged.{placed_job_line}
+use Rattle.table_jobs.specs.Placed.{placed_job_line}
 use Rattle.table_progress.proofs.Jobs.{line_refused}
 use Rattle.table_jobs.proofs.print_job.Goals as goal
 

@@ -1,0 +1,2 @@
+-- What a job is given as, when it is printed.
+pub mod Placed
